@@ -72,6 +72,10 @@ settled_from move key threads c (cluster ∷ clusters) = settled_cluster move ke
 abbrev pub key_of : List Standing → ℕ → ℕ
 key_of now t = (nth_standing now t).prio
 
--- The state after a change, settled: before is the state before the change, now is the one after it, whose lines are still the old ones, and the threads of last yielded or had their base priority set.
+-- the state after a change, settled, where the threads stood like this before it; now has the lines of before
+abbrev pub settle_by : List Standing → Plain → List ℕ → Plain
+settle_by stood now last = record now { clusters = settled_from (moves stood (standings now) last) (key_of (standings now)) now.threads 0 now.clusters }
+
+-- The state after a change, settled: before is the state before the change, now is the one after it, whose lines are still those of before, and the threads of last yielded or had their base priority set.
 abbrev pub settle : Plain → Plain → List ℕ → Plain
-settle before now last = record now { clusters = settled_from (moves (standings before) (standings now) last) (key_of (standings now)) now.threads 0 now.clusters }
+settle before now last = settle_by (standings before) now last

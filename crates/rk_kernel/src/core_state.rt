@@ -1,0 +1,43 @@
+use rk_model::{Armed, Bounded, Items, Scenario, Standing, Thread, ThreadIx};
+
+/// A list of threads of a cluster.
+pub(crate) type Line = Bounded<ThreadIx, 64>;
+
+/// The armed timers of a cluster's threads, of which each has at most one.
+pub(crate) type Timers = Bounded<Armed, 64>;
+
+/// A cluster of the running kernel.
+#[derive(Debug, Drop)]
+pub struct ClusterPart {
+    /// The eligible threads of the cluster, in their order.
+    pub line: Line,
+    /// The thread that each processor has.
+    pub cpus: Items<Option<ThreadIx>>,
+    /// The armed timers, in order of arming.
+    pub timers: Timers,
+}
+
+/// The state of the running kernel, in its pieces.
+#[derive(Debug, Drop)]
+pub struct Core {
+    pub scenario: Scenario,
+    /// The present tick.
+    pub present: u32,
+    pub clusters: Items<ClusterPart>,
+    /// The places of 64 threads.
+    pub threads: Items<Thread>,
+}
+
+/// Room for what settling notes and makes.
+#[derive(Debug, Drop)]
+pub struct Scratch {
+    /// How each thread stood before the change.
+    pub before: Items<Standing>,
+    /// How each thread stands after it.
+    pub now: Items<Standing>,
+    /// The threads that yielded or had their base priority set.
+    pub last: Line,
+    pub line: Line,
+    pub running: Line,
+    pub fresh: Line,
+}
