@@ -37,7 +37,12 @@ pub struct Scratch {
     pub now: Items<Standing>,
     /// The threads that yielded or had their base priority set.
     pub last: Line,
+    /// A line as it is made anew.
     pub line: Line,
+    /// The runners of a cluster.
     pub running: Line,
+    /// The runners that have no processor yet.
     pub fresh: Line,
+    /// The threads as a tick makes them anew.
+    pub threads: Items<Thread>,
 }

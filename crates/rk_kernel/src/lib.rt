@@ -1,6 +1,21 @@
 //! The kernel of one thread: its parts, and their steps.
 #![tactic(auto)]
 
+mod clock;
 mod core_state;
+mod directives;
+mod kernel;
 mod line;
+mod opening;
+mod places;
 mod settle;
+mod standing;
+mod steps;
+mod timers;
+
+pub use kernel::{
+    Parts, cpus_of, open_parts, replay, run_lowest, run_view, scenario_of, step_all, tick_all,
+    tick_of,
+};
+pub use rk_model::View;
+pub use steps::{CoreStep, CoreTick};

@@ -1,0 +1,162 @@
+ghost use Rattle.std.specs.Prelude.{◌≡◌, ◌<◌, ◌≤◌, ◌+◌, ℕ, [], length, IfOk, IfSome, IsSome, Some, false};
+ghost use Rattle.rk_model.specs.State.{Plain};
+ghost use Rattle.rk_model.specs.Running.{cpu_count, running, caller, least};
+ghost use Rattle.rk_model.specs.Steps.{act, clock_entry};
+ghost use Rattle.rk_model.specs.Histories.{opening, turn, lowest, lowest_from, next_of, is_end};
+ghost use Rattle.rk_model.specs.Scenarios.{IsScenario};
+ghost use Rattle.rk_kernel.specs.Step.{IsStep, IsTick};
+
+use crate::clock::tick_core;
+use crate::core_state::{Core, Scratch};
+use crate::opening::{make_opening, make_scratch};
+use crate::places::{count_cpus, least_of, view_on};
+use crate::steps::{CoreStep, CoreTick, step_core};
+use rk_model::{Entry, History, NoMemory, Scenario, View, What};
+use std::alloc::Global;
+use std::marker::Model;
+
+/// A running kernel. Contracts see the state that it stands for.
+#[derive(Debug, Drop)]
+pub struct Parts {
+    core: Core,
+    scratch: Scratch,
+}
+
+impl Model for Parts {
+    ghost use Rattle.rk_model.specs.State.{Plain};
+    ghost use Rattle.rk_kernel.specs.Pieces.{plain_of};
+    ghost use Rattle.rk_kernel.specs.Noted.{IsNoted};
+    ghost use Rattle.rk_kernel.specs.Sound.{IsSound};
+
+    ghost Value = { Plain };
+
+    ghost view = { λ p. plain_of p.core };
+
+    ghost invariant = { λ p. IsSound (plain_of p.core) × IsNoted (plain_of p.core) p.scratch };
+}
+
+/// The parts of the opening state of a scenario. It takes all the room that the run needs.
+pub fn open_parts(alloc: Global, scenario: &Scenario) -> Result<Parts, NoMemory>
+    requires { IsScenario scenario.now }
+    ensures { IfOk result (λ p. p ≡ opening scenario.now) }
+{
+    let mut scratch = make_scratch(alloc)?;
+    let core = make_opening(alloc, scenario, &mut scratch)?;
+    Ok(Parts { core, scratch })
+}
+
+/// A step of a processor: its directive, or why it has none. It takes no memory.
+pub fn step_all(parts: &mut Parts, cpu: u8) -> CoreStep
+    requires { cpu < cpu_count parts.old }
+    ensures { IsStep parts.old cpu result parts.new }
+{
+    step_core(&mut parts.core, &mut parts.scratch, cpu)
+}
+
+/// A step of the clock: a tick, the end, or the processor that comes first. It takes no memory.
+pub fn tick_all(parts: &mut Parts) -> CoreTick
+    ensures { IsTick parts.old result parts.new }
+{
+    tick_core(&mut parts.core, &mut parts.scratch)
+}
+
+/// What a processor does.
+pub fn run_view(parts: &Parts, cpu: u8) -> View
+    requires { cpu < cpu_count parts.now }
+    ensures { result ≡ running parts.now cpu }
+{
+    view_on(&parts.core, cpu as usize)
+}
+
+/// How many processors there are, 1 to 8.
+pub fn cpus_of(parts: &Parts) -> u8
+    ensures count { result ≡ cpu_count parts.now }
+    ensures few { result ≤ 8 }
+{
+    count_cpus(parts.core.clusters.as_slice()) as u8
+}
+
+/// The present tick, at most 1,000,000.
+pub fn tick_of(parts: &Parts) -> u32
+    ensures value { result ≡ parts.now.present }
+    ensures small { result ≤ 1000000 }
+{
+    parts.core.present
+}
+
+/// The scenario that is run.
+pub fn scenario_of(parts: &Parts) -> &Scenario
+    ensures { result.now ≡ parts.now.scenario }
+{
+    &parts.core.scenario
+}
+
+/// Does again what a seat does; nothing where it does nothing. It takes no memory.
+pub fn replay(parts: &mut Parts, seat: u8)
+    ensures { parts.new ≡ next_of parts.old (act parts.old seat) }
+{
+    if seat == 8 {
+        tick_all(parts);
+    } else if seat < cpus_of(parts) {
+        step_all(parts, seat);
+    }
+}
+
+/// The least processor that has a directive.
+fn least_in(parts: &Parts) -> Option<u8>
+    ensures least { result ≡ least parts.now }
+    ensures found { IfSome result (λ cpu. IsSome (caller parts.now cpu) × (cpu < cpu_count parts.now) × (cpu < 8)) }
+{
+    least_of(&parts.core)
+}
+
+/// An entry of the clock.
+fn entry_of_clock(what: What) -> Entry
+    ensures { result ≡ clock_entry what }
+{
+    Entry {
+        seat: 8,
+        what,
+        task: 0,
+        body: 0,
+        line: 0,
+        status: 0,
+        out: 0,
+    }
+}
+
+/// The least processor that has a directive acts, else the clock.
+fn step_least(parts: &mut Parts) -> Entry
+    ensures { act parts.old (turn parts.old) ≡ Some (record { entry = result; next = parts.new }) }
+{
+    match least_in(parts) {
+        Some(cpu) => match step_all(parts, cpu) {
+            CoreStep::Did(entry) => entry,
+            CoreStep::Nothing(_) => unreachable!(),
+        },
+        None => match tick_all(parts) {
+            CoreTick::Ticked => entry_of_clock(What::Tick),
+            CoreTick::Ended => entry_of_clock(What::End),
+            CoreTick::NotYet(_) => unreachable!(),
+        },
+    }
+}
+
+/// The history in which always the least processor that has a directive acts, else the clock, up to
+/// the end of the run or to the scenario's limit of entries.
+pub fn run_lowest(alloc: Global, scenario: &Scenario) -> Result<History, NoMemory>
+    requires { IsScenario scenario.now }
+    ensures { IfOk result (λ h. h.entries ≡ lowest scenario.now scenario.now.limit) }
+{
+    let mut history = History::new(alloc, scenario.limit)?;
+    let mut parts = open_parts(alloc, scenario)?;
+    for count in 0..scenario.limit {
+        let _turn = count;
+        let entry = step_least(&mut parts);
+        history.push(entry);
+        if let What::End = entry.what {
+            return Ok(history);
+        }
+    }
+    Ok(history)
+}

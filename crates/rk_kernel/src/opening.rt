@@ -1,0 +1,161 @@
+ghost use Rattle.std.specs.Prelude.{◌≡◌, ◌<◌, ◌≤◌, ℕ, length, [], IfOk, map};
+ghost use Rattle.rk_model.specs.Histories.{begun, places, free_cluster, vacant, opening};
+ghost use Rattle.rk_model.specs.Limits.{IsWithinLimits};
+ghost use Rattle.rk_kernel.specs.Noted.{IsNoted};
+ghost use Rattle.rk_kernel.specs.Pieces.{cluster_of, clusters_of, plain_of};
+ghost use Rattle.rk_kernel.specs.Sound.{IsSound};
+
+use crate::core_state::{ClusterPart, Core, Line, Scratch, Timers};
+use crate::places::arrive;
+use crate::settle::settle_core;
+use crate::standing::note_all;
+use rk_model::{Body, Init, Items, Life, NoMemory, Scenario, Standing, Thread};
+use std::alloc::Global;
+
+/// A body that equals this one.
+fn copy_body(alloc: Global, body: &Body) -> Result<Body, NoMemory>
+    ensures { IfOk result (λ b. b ≡ body.now) }
+{
+    Ok(Body {
+        name: Items::from_slice(alloc, body.name.as_slice())?,
+        lines: Items::from_slice(alloc, body.lines.as_slice())?,
+    })
+}
+
+/// Bodies that equal these.
+fn copy_bodies(alloc: Global, bodies: &[Body]) -> Result<Vec<Body>, NoMemory>
+    ensures { IfOk result (λ v. v.items ≡ bodies.now) }
+{
+    let mut copies = Vec::new(alloc);
+    for body in bodies {
+        copies.push(copy_body(alloc, body)?)?;
+    }
+    Ok(copies)
+}
+
+/// A scenario that equals this one.
+fn copy_scenario(alloc: Global, scenario: &Scenario) -> Result<Scenario, NoMemory>
+    ensures { IfOk result (λ s. s ≡ scenario.now) }
+{
+    let bodies = copy_bodies(alloc, scenario.bodies.as_slice())?;
+    Ok(Scenario {
+        clusters: Items::from_slice(alloc, scenario.clusters.as_slice())?,
+        horizon: scenario.horizon,
+        limit: scenario.limit,
+        bodies: Items::from_vec(bodies),
+        inits: Items::from_slice(alloc, scenario.inits.as_slice())?,
+    })
+}
+
+/// A cluster of so many processors, none of which has a thread.
+fn make_cluster(alloc: Global, count: u8) -> Result<ClusterPart, NoMemory>
+    ensures { IfOk result (λ part. cluster_of part ≡ free_cluster count) }
+{
+    let cpus = vec![in alloc; None; count as usize]?;
+    Ok(ClusterPart {
+        line: Line::new(alloc)?,
+        cpus: Items::from_vec(cpus),
+        timers: Timers::new(alloc)?,
+    })
+}
+
+/// Clusters of which no processor has a thread.
+fn make_clusters(alloc: Global, counts: &[u8]) -> Result<Vec<ClusterPart>, NoMemory>
+    ensures { IfOk result (λ v. clusters_of v.items ≡ map free_cluster counts.now) }
+{
+    let mut clusters = Vec::new(alloc);
+    for count in counts {
+        clusters.push(make_cluster(alloc, *count)?)?;
+    }
+    Ok(clusters)
+}
+
+/// Places for 64 threads.
+fn make_places(alloc: Global) -> Result<Items<Thread>, NoMemory>
+    ensures { IfOk result (λ threads. threads ≡ places 64 []) }
+{
+    let places = vec![in alloc; Thread::absent(); 64]?;
+    Ok(Items::from_vec(places))
+}
+
+/// The state in which there is no task yet.
+fn make_vacant(alloc: Global, scenario: &Scenario) -> Result<Core, NoMemory>
+    ensures { IfOk result (λ core. plain_of core ≡ vacant scenario.now) }
+{
+    let clusters = make_clusters(alloc, scenario.clusters.as_slice())?;
+    Ok(Core {
+        scenario: copy_scenario(alloc, scenario)?,
+        present: 0,
+        clusters: Items::from_vec(clusters),
+        threads: make_places(alloc)?,
+    })
+}
+
+/// The thread of an init line.
+fn begin(scenario: &Scenario, init: &Init) -> Thread
+    ensures { result ≡ begun scenario.now init.now }
+{
+    let thread = Thread {
+        life: Life::Started,
+        home: init.cluster,
+        base: init.prio.level(),
+        body: init.body,
+        ..Thread::absent()
+    };
+    arrive(scenario, thread, 1)
+}
+
+/// Starts the tasks of the init lines.
+fn start_all(threads: &mut Items<Thread>, scenario: &Scenario)
+    requires places { threads.old ≡ places 64 [] }
+    requires few { length scenario.now.inits ≤ 64 }
+    ensures { threads.new ≡ places 64 (map (begun scenario.now) scenario.now.inits) }
+{
+    for at in 0..scenario.inits.len() {
+        threads.set(at, begin(scenario, &scenario.inits.at(at)));
+    }
+}
+
+/// Room for what settling and ticks note and make.
+pub(crate) fn make_scratch(alloc: Global) -> Result<Scratch, NoMemory>
+    ensures before { IfOk result (λ scratch. length scratch.before ≡ 64) }
+    ensures now { IfOk result (λ scratch. length scratch.now ≡ 64) }
+    ensures last { IfOk result (λ scratch. scratch.last ≡ []) }
+    ensures threads { IfOk result (λ scratch. length scratch.threads ≡ 64) }
+{
+    let none = Standing {
+        eligible: false,
+        prio: 0,
+    };
+    Ok(Scratch {
+        before: Items::from_vec(vec![in alloc; none; 64]?),
+        now: Items::from_vec(vec![in alloc; none; 64]?),
+        last: Line::new(alloc)?,
+        line: Line::new(alloc)?,
+        running: Line::new(alloc)?,
+        fresh: Line::new(alloc)?,
+        threads: make_places(alloc)?,
+    })
+}
+
+/// The state at opening.
+pub(crate) fn make_opening(
+    alloc: Global,
+    scenario: &Scenario,
+    scratch: &mut Scratch,
+) -> Result<Core, NoMemory>
+    requires limits { IsWithinLimits scenario.now }
+    requires before { length scratch.old.before ≡ 64 }
+    requires now { length scratch.old.now ≡ 64 }
+    requires last { scratch.old.last ≡ [] }
+    requires threads { length scratch.old.threads ≡ 64 }
+    ensures opening { IfOk result (λ core. plain_of core ≡ opening scenario.now) }
+    ensures sound { IfOk result (λ core. IsSound (plain_of core)) }
+    ensures noted { IfOk result (λ core. IsNoted (plain_of core) scratch.new) }
+{
+    let mut core = make_vacant(alloc, scenario)?;
+    note_all(&mut scratch.before, &core);
+    start_all(&mut core.threads, scenario);
+    settle_core(&mut core, scratch);
+    Ok(core)
+}

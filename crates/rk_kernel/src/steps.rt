@@ -1,0 +1,78 @@
+ghost use Rattle.std.specs.Prelude.{◌≡◌, ◌<◌, ◌≤◌, Some};
+ghost use Rattle.rk_model.specs.Running.{caller};
+ghost use Rattle.rk_model.specs.Settling.{settle};
+ghost use Rattle.rk_model.specs.Steps.{action, entry_of};
+ghost use Rattle.rk_kernel.specs.Noted.{IsNoted};
+ghost use Rattle.rk_kernel.specs.Pieces.{plain_of};
+ghost use Rattle.rk_kernel.specs.Sound.{IsSound};
+ghost use Rattle.rk_kernel.specs.Step.{IsStep};
+
+use crate::core_state::{Core, Scratch};
+use crate::directives::perform;
+use crate::places::{caller_on, why_not};
+use crate::settle::settle_core;
+use crate::standing::thread_of;
+use rk_model::{Entry, ThreadIx, What, Why};
+
+/// What a step of a processor was.
+#[derive(Clone, Copy, Debug, PartialEq, Eq)]
+pub enum CoreStep {
+    /// It did a directive, or returned from one, with this entry.
+    Did(Entry),
+    /// It has no directive, for this reason.
+    Nothing(Why),
+}
+
+/// What a step of the clock was.
+#[derive(Clone, Copy, Debug, PartialEq, Eq)]
+pub enum CoreTick {
+    /// A tick passed.
+    Ticked,
+    /// The run ended at the horizon.
+    Ended,
+    /// This processor, the least that has a directive, comes first.
+    NotYet(u8),
+}
+
+/// The thread's next action on a processor, and the settling after it.
+fn act_by(core: &mut Core, scratch: &mut Scratch, cpu: u8, thread: ThreadIx) -> Entry
+    requires caller { caller (plain_of core.old) cpu ≡ Some thread }
+    requires sound { IsSound (plain_of core.old) }
+    requires noted { IsNoted (plain_of core.old) scratch.old }
+    ensures entry { result ≡ entry_of (plain_of core.old) cpu thread (action (plain_of core.old) thread) }
+    ensures next { plain_of core.new ≡ settle (plain_of core.old) (action (plain_of core.old) thread).next (action (plain_of core.old) thread).last }
+    ensures sound { IsSound (plain_of core.new) }
+    ensures noted { IsNoted (plain_of core.new) scratch.new }
+{
+    let was = thread_of(core.threads.as_slice(), thread);
+    scratch.last.clear();
+    let reply = perform(core, &mut scratch.last, thread);
+    settle_core(core, scratch);
+    Entry {
+        seat: cpu,
+        what: match was.finished {
+            None => What::Call,
+            Some(_) => What::Return,
+        },
+        task: thread.at(),
+        body: was.body,
+        line: was.line,
+        status: reply.status.code(),
+        out: reply.out,
+    }
+}
+
+/// A step of a processor.
+pub(crate) fn step_core(core: &mut Core, scratch: &mut Scratch, cpu: u8) -> CoreStep
+    requires cpu { cpu < 8 }
+    requires sound { IsSound (plain_of core.old) }
+    requires noted { IsNoted (plain_of core.old) scratch.old }
+    ensures step { IsStep (plain_of core.old) cpu result (plain_of core.new) }
+    ensures sound { IsSound (plain_of core.new) }
+    ensures noted { IsNoted (plain_of core.new) scratch.new }
+{
+    match caller_on(core, cpu as usize) {
+        None => CoreStep::Nothing(why_not(core, cpu as usize)),
+        Some(thread) => CoreStep::Did(act_by(core, scratch, cpu, thread)),
+    }
+}
