@@ -7,6 +7,10 @@ Consumes None now bytes = Unit {0}
 Consumes (Some before) None bytes = ⊥
 Consumes (Some before) (Some now) bytes = before ≡ bytes ++ now
 
+-- what was left is some bytes, which the call took, and what is left now
+abbrev pub ConsumesPrefix : Option (List ℕ) → Option (List ℕ) → Type 0
+ConsumesPrefix before now = (bytes : List ℕ) × Consumes before now bytes
+
 -- nothing is left
 abbrev pub IsAtEnd : Option (List ℕ) → Type 0
 IsAtEnd None = Unit {0}

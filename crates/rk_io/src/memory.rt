@@ -9,7 +9,7 @@ use crate::sure::copy_front;
 use std::alloc::Global;
 use std::marker::Model;
 
-/// A source in memory that gives its bytes in pieces, and fails at calls that were chosen when it was made.
+/// A source in memory that gives its bytes in pieces, and fails at calls that its maker chose.
 #[derive(Debug, Drop)]
 pub struct MemSource {
     bytes: Vec<u8>,
@@ -26,17 +26,29 @@ impl Model for MemSource {
 
     ghost Value = { Supply };
 
-    ghost view = { λ s. record { left = drop s.at s.bytes.items; piece = s.piece; fails = s.fails.items; calls = s.calls; faults = s.faults } };
+    ghost view = { λ s. record {
+      left = drop s.at s.bytes.items;
+      piece = s.piece;
+      fails = s.fails.items;
+      calls = s.calls;
+      faults = s.faults;
+    } };
 
     ghost invariant = { λ s. (s.at ≤ vec_len s.bytes) × (0 < s.piece) };
 }
 
 impl MemSource {
-    /// Makes a source of these bytes. A read moves at most `piece` of them, which is at least 1.
+    /// Makes a source of these bytes. A read moves at most `piece` of them, at least 1.
     /// The reads whose numbers, from 1, stand in `fails` fail.
     pub fn new(bytes: Vec<u8>, piece: u64, fails: Vec<u64>) -> MemSource
         requires { 0 < piece }
-        ensures { result ≡ record { left = bytes.items; piece = piece; fails = fails.items; calls = 0; faults = 0 } }
+        ensures { result ≡ record {
+          left = bytes.items;
+          piece = piece;
+          fails = fails.items;
+          calls = 0;
+          faults = 0;
+        } }
     {
         MemSource {
             bytes,
@@ -65,7 +77,8 @@ impl Source for MemSource {
 
         // What this source says beyond any other.
         ensures fails { IsErr result ↔ Contains self.old.fails (one_more self.old.calls) }
-        ensures count { IfOk result (λ n. n ≡ min (length buf.old) (min self.old.piece (length self.old.left))) }
+        ensures count { IfOk result
+            (λ n. n ≡ min (length buf.old) (min self.old.piece (length self.old.left))) }
         ensures after { self.new ≡ after_read self.old result }
     {
         self.calls = self.calls.saturating_add(1);
@@ -81,7 +94,7 @@ impl Source for MemSource {
     }
 }
 
-/// A sink in memory that takes bytes in pieces, and fails at calls that were chosen when it was made.
+/// A sink in memory that takes bytes in pieces, and fails at calls that its maker chose.
 #[derive(Debug, Drop)]
 pub struct MemSink {
     bytes: Vec<u8>,
@@ -97,17 +110,29 @@ impl Model for MemSink {
 
     ghost Value = { Store };
 
-    ghost view = { λ s. record { taken = s.bytes.items; piece = s.piece; fails = s.fails.items; calls = s.calls; faults = s.faults } };
+    ghost view = { λ s. record {
+      taken = s.bytes.items;
+      piece = s.piece;
+      fails = s.fails.items;
+      calls = s.calls;
+      faults = s.faults;
+    } };
 
     ghost invariant = { λ s. 0 < s.piece };
 }
 
 impl MemSink {
-    /// Makes a sink that has taken nothing. A write moves at most `piece` bytes, which is at least 1.
+    /// Makes a sink that has taken nothing. A write moves at most `piece` bytes, at least 1.
     /// The writes whose numbers, from 1, stand in `fails` fail.
     pub fn new(alloc: Global, piece: u64, fails: Vec<u64>) -> MemSink
         requires { 0 < piece }
-        ensures { result ≡ record { taken = []; piece = piece; fails = fails.items; calls = 0; faults = 0 } }
+        ensures { result ≡ record {
+          taken = [];
+          piece = piece;
+          fails = fails.items;
+          calls = 0;
+          faults = 0;
+        } }
     {
         MemSink {
             bytes: Vec::new(alloc),
@@ -136,11 +161,13 @@ impl Sink for MemSink {
     fn write(&mut self, bytes: &[u8]) -> Result<u64, WriteError>
         requires { 0 < length bytes.now }
         ensures some { IfOk result (λ n. (0 < n) × (n ≤ length bytes.now)) }
-        ensures bytes { Appends (Some self.old.taken) (Some self.new.taken) (moved result bytes.now) }
+        ensures bytes { Appends (Some self.old.taken) (Some self.new.taken)
+            (moved result bytes.now) }
         ensures cause { HasWriteCause self.old.faults self.new.faults result }
 
         // What this sink says beyond any other.
-        ensures fails { IsErrOf result WriteError.Failed ↔ Contains self.old.fails (one_more self.old.calls) }
+        ensures fails { IsErrOf result WriteError.Failed
+            ↔ Contains self.old.fails (one_more self.old.calls) }
         ensures count { IfOk result (λ n. n ≡ min self.old.piece (length bytes.now)) }
         ensures after { self.new ≡ after_write self.old bytes.now result }
     {

@@ -36,16 +36,19 @@ pub trait Sink {
     fn write(&mut self, bytes: &[u8]) -> Result<u64, WriteError>
         requires { 0 < length bytes.now }
         ensures some { IfOk result (λ n. (0 < n) × (n ≤ length bytes.now)) }
-        ensures bytes { Appends (taken_so_far self.old) (taken_so_far self.new) (moved result bytes.now) }
+        ensures bytes { Appends (taken_so_far self.old) (taken_so_far self.new)
+            (moved result bytes.now) }
         ensures cause { HasWriteCause (faults self.old) (faults self.new) result };
 }
 
 /// Writes all the bytes. Where it stops with an error the sink has taken a prefix of them.
 /// It takes no memory but what the sink's own `write` takes.
 pub fn write_all<K: Sink>(sink: &mut K, bytes: &[u8]) -> Result<(), WriteError>
-    ensures written { OnOk result (Appends (K.taken_so_far sink.old) (K.taken_so_far sink.new) bytes.now) }
+    ensures written { OnOk result
+        (Appends (K.taken_so_far sink.old) (K.taken_so_far sink.new) bytes.now) }
     ensures cause { HasWriteCause (K.faults sink.old) (K.faults sink.new) result }
-    ensures prefix { OnErr result (AppendsPrefix (K.taken_so_far sink.old) (K.taken_so_far sink.new) bytes.now) }
+    ensures prefix { OnErr result
+        (AppendsPrefix (K.taken_so_far sink.old) (K.taken_so_far sink.new) bytes.now) }
 {
     let mut at = 0;
     while at < bytes.len() {

@@ -1,6 +1,6 @@
 ghost use Rattle.std.specs.Prelude.{◌≡◌, ◌<◌, ◌≤◌, ℕ, List, Option, length, IfOk, OnErr};
 ghost use Rattle.rk_io.specs.Causes.{HasCause, HasReadCause};
-ghost use Rattle.rk_io.specs.Bytes.{Consumes, IsAtEnd, moved};
+ghost use Rattle.rk_io.specs.Bytes.{Consumes, ConsumesPrefix, IsAtEnd, moved};
 ghost use Rattle.rk_io.specs.Reading.{HasRead};
 ghost use Rattle.rk_io.specs.declared.source.ReadError.TheVariants as why;
 
@@ -70,9 +70,9 @@ const CHUNK: usize = 4096;
 /// Reads to the end of the input, or the first `most + 1` bytes where there are more than `most`.
 /// Where it stops with an error it has taken a prefix of what was left.
 pub fn read_all<S: Source>(alloc: Global, source: &mut S, most: u64) -> Result<Input, ReadError>
-    ensures read { IfOk result (λ input. HasRead (S.left source.old) (S.left source.new) most input) }
+    ensures read { IfOk result (HasRead (S.left source.old) (S.left source.new) most) }
     ensures cause { HasReadCause (S.faults source.old) (S.faults source.new) result }
-    ensures prefix { OnErr result ((bytes : List ℕ) × Consumes (S.left source.old) (S.left source.new) bytes) }
+    ensures prefix { OnErr result (ConsumesPrefix (S.left source.old) (S.left source.new)) }
 {
     let mut bytes = Vec::new(alloc);
     let mut buf = [0u8; CHUNK];
