@@ -1,0 +1,5 @@
+pub mod Noting
+pub mod Ranks
+pub mod Ranges
+pub mod Clusters
+pub mod Settling

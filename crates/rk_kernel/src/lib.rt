@@ -4,3 +4,4 @@
 mod core_state;
 mod line;
 mod settle;
+mod standing;
