@@ -1,11 +1,11 @@
-ghost use Rattle.std.specs.Prelude.{◌≡◌, ◌≤◌, ◌<◌, ◌-◌, length};
+ghost use Rattle.std.specs.Prelude.{◌≡◌, ◌≤◌, ◌<◌, ◌+◌, ◌-◌, length};
 ghost use Rattle.rk_model.specs.Lists.{nth};
 ghost use Rattle.rk_model.specs.State.{no_thread};
-ghost use Rattle.rk_model.specs.Priorities.{spins, standings};
+ghost use Rattle.rk_model.specs.Priorities.{spins as spins_of, is_eligible, prio, home_prio, standing, standings, standings_from, nth_standing};
 ghost use Rattle.rk_kernel.specs.Pieces.{plain_of};
 
 use crate::core_state::Core;
-use rk_model::{Items, Standing, Thread, ThreadIx};
+use rk_model::{Items, Life, Standing, Thread, ThreadIx, Wait};
 
 /// The thread of an index, or what stands where there is none.
 pub(crate) fn thread_of(threads: &[Thread], thread: ThreadIx) -> Thread
@@ -17,12 +17,60 @@ pub(crate) fn thread_of(threads: &[Thread], thread: ThreadIx) -> Thread
     }
 }
 
-/// Whether a thread spins.
+/// Whether the thread spins.
 pub(crate) fn spins(core: &Core, thread: ThreadIx) -> bool
-    ensures { result ≡ spins (plain_of core.now) thread }
+    ensures { result ≡ spins_of (plain_of core.now) thread }
 {
     match thread_of(core.threads.as_slice(), thread).wait {
-        Some(rk_model::Wait::ForTime) | None => false,
+        None => false,
+        Some(Wait::ForTime) => false,
+    }
+}
+
+/// Whether the thread may stand in the line of its cluster.
+#[tactic(auto, unfolding(rk_model::specs::Priorities::is_eligible))]
+fn eligible(core: &Core, thread: ThreadIx) -> bool
+    ensures { result ≡ is_eligible (plain_of core.now) thread }
+{
+    let found = thread_of(core.threads.as_slice(), thread);
+    matches!(found.life, Life::Started)
+        && !found.suspended
+        && (found.wait.is_none() || spins(core, thread))
+}
+
+/// The priority of the thread in a cluster, if it has one there.
+#[tactic(auto, unfolding(rk_model::specs::Priorities::prio))]
+fn prio_of(core: &Core, thread: ThreadIx, cluster: u8) -> Option<u8>
+    ensures { result ≡ prio (plain_of core.now) thread cluster }
+{
+    let found = thread_of(core.threads.as_slice(), thread);
+    if found.home == cluster {
+        Some(found.base)
+    } else {
+        None
+    }
+}
+
+/// The priority of the thread in its home; 0 where it has none.
+#[tactic(auto, unfolding(rk_model::specs::Priorities::home_prio))]
+fn prio_at_home(core: &Core, thread: ThreadIx) -> u8
+    ensures { result ≡ home_prio (plain_of core.now) thread }
+{
+    let home = thread_of(core.threads.as_slice(), thread).home;
+    match prio_of(core, thread, home) {
+        Some(prio) => prio,
+        None => 0,
+    }
+}
+
+/// How the thread stands.
+#[tactic(auto, unfolding(rk_model::specs::Priorities::standing))]
+fn standing_of(core: &Core, thread: ThreadIx) -> Standing
+    ensures { result ≡ standing (plain_of core.now) thread }
+{
+    Standing {
+        eligible: eligible(core, thread),
+        prio: prio_at_home(core, thread),
     }
 }
 
@@ -32,4 +80,20 @@ pub(crate) fn note_all(out: &mut Items<Standing>, core: &Core)
     requires size { length out.old ≡ length core.now.threads }
     ensures { out.new ≡ standings (plain_of core.now) }
 {
+    for at in 0..core.threads.len() {
+        out.set(at, standing_of(core, ThreadIx::new(at as u8 + 1)));
+    }
+}
+
+/// How the thread of an index stands.
+pub(crate) fn nth_of(standings: &[Standing], thread: ThreadIx) -> Standing
+    ensures { result ≡ nth_standing standings.now thread }
+{
+    match standings.get(thread.at() as usize - 1) {
+        Some(found) => *found,
+        None => Standing {
+            eligible: false,
+            prio: 0,
+        },
+    }
 }

@@ -1,0 +1,15 @@
+use Rattle.std.proofs.Common.{◌≡◌, ◌++◌, take, drop, length}
+use Rattle.rk_model.specs.Settling.{moves, key_of, settled_from}
+use Rattle.rk_kernel.specs.Pieces.{clusters_of}
+use Rattle.rk_kernel.specs.Room.{AllRoomy}
+use Rattle.rk_kernel.proofs.settle.settle_all.Given as goal
+
+abbrev pub invariant-loop-at : goal.invariant-loop-at
+invariant-loop-at l = record {
+  size : length l.clusters ≡ length l.fn.clusters;
+  before : l.scratch.before ≡ l.fn.scratch.before;
+  now : l.scratch.now ≡ l.fn.scratch.now;
+  last : l.scratch.last ≡ l.fn.scratch.last;
+  room : AllRoomy (moves l.fn.scratch.before l.fn.scratch.now l.fn.scratch.last) l.threads l.at (clusters_of (drop l.at l.clusters));
+  told : clusters_of (take l.at l.clusters) ++ settled_from (moves l.fn.scratch.before l.fn.scratch.now l.fn.scratch.last) (key_of l.fn.scratch.now) l.threads l.at (clusters_of (drop l.at l.clusters)) ≡ settled_from (moves l.fn.scratch.before l.fn.scratch.now l.fn.scratch.last) (key_of l.fn.scratch.now) l.threads 0 (clusters_of l.fn.clusters);
+}
