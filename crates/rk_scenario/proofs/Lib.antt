@@ -1,1 +1,5 @@
 pub mod Numbers
+pub mod Spelled
+pub mod Named
+pub mod Left
+pub mod Sound
