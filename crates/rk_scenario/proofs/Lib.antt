@@ -3,3 +3,5 @@ pub mod Spelled
 pub mod Named
 pub mod Left
 pub mod Sound
+pub mod Complete
+pub mod Texts
