@@ -1,0 +1,13 @@
+//! Reads scenarios from their text.
+#![tactic(auto)]
+
+mod draft;
+mod errors;
+mod lines;
+mod operands;
+mod ops;
+mod read;
+mod words;
+
+pub use errors::ScenarioError;
+pub use read::read_scenario;
