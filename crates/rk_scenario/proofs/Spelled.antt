@@ -156,7 +156,7 @@ init_ok s (name ∷ cluster ∷ priority ∷ body ∷ []) init e =
     let p = bind_ok (number_operand 1 255 priority) (λ p. body_operand s.bodies body >>= (λ b. Ok (made n.0 c.0 p b))) init c.2 in
     let b = bind_ok (body_operand s.bodies body) (λ b. Ok (made n.0 c.0 p.0 b)) init p.2 in
     let home = cluster_ok (length s.clusters) cluster c.0 c.1 in
-    subst (λ (i : Init). IsInit s (codes "init" ∷ name ∷ cluster ∷ priority ∷ body ∷ []) i) (ok_is (made n.0 c.0 p.0 b.0) init b.2) (record {
+    subst (λ (i : Init). IsInit s (codes "init" ∷ name ∷ cluster ∷ priority ∷ body ∷ []) i) {x = made n.0 c.0 p.0 b.0} (ok_is (made n.0 c.0 p.0 b.0) init b.2) (record {
       name = name;
       cluster = cluster;
       priority = priority;

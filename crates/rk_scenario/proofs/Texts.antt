@@ -1,6 +1,6 @@
 -- The verdict on a text is the scenario that it tells, and bytes that tell none have a fault.
 use Rattle.std.proofs.Common.{◌≡◌, ℕ, zero, suc, ◌+◌, ◌≤◌, ◌<◌, Bool, true, false, cond, not, ◌⊎◌, inl, inr, List, [], ◌∷◌, ◌++◌, length, map, Option, Some, None, Result, Ok, Err, codes, refl, sym, ap, subst, ◌∙◌, append_assoc, arith}
-use Rattle.std.specs.Prelude.{◌↔◌, nat_lt, filter}
+use Rattle.std.specs.Prelude.{◌↔◌, nat_lt, filter, IfOk, IfErr}
 use Rattle.std.specs.List.{AllByRecursion}
 use Rattle.std.proofs.lemmas.Bool.{cases_Bool, le-ltb, ltb-false}
 use Rattle.rk_model.specs.declared.scenario.Body.{Body}
@@ -9,8 +9,11 @@ use Rattle.rk_model.specs.declared.scenario.Scenario.{Scenario}
 use Rattle.rk_model.specs.declared.scenario.ScenarioWhy.{ScenarioWhy}
 use Rattle.rk_model.specs.declared.scenario.ScenarioWhy.TheVariants.{TooLarge, NotYetBuilt}
 use Rattle.rk_model.specs.Words.{lines_of, words_of, is_plain, is_skipped}
-use Rattle.rk_model.specs.Scenarios.{AreClusters, AreBodies, AreInits, IsCluster, IsTicks, told_lines, Tells, ScenarioText}
+use Rattle.rk_model.specs.Scenarios.{AreClusters, AreBodies, AreInits, IsCluster, IsTicks, told_lines, Tells, ScenarioText, IsScenario}
 use Rattle.rk_model.specs.Reading.{Phase, Start, Headed, Clustered, Timed, InBody, InInits, Draft, start, after_told, after_words, after_line, Fault, Verdict, Reads, Faults, at_end, goes_on, verdict_from, verdict, fault_in, scenario_fault}
+use Rattle.rk_scenario.specs.declared.errors.ScenarioError.{ScenarioError}
+use Rattle.rk_scenario.specs.declared.errors.ScenarioError.TheVariants.{Refused, Memory}
+use Rattle.rk_scenario.specs.Outcomes.{Answers, IsRefusal}
 use Rattle.rk_scenario.specs.Laws.{ReadsTexts, ReadsEachText, OneScenario, FaultlessAreTexts}
 use Rattle.rk_scenario.proofs.Left.{InitsLeft, BodiesLeft, TicksLeft, ClusterLeft, HeaderLeft, Completes, draft_at, ends}
 use Rattle.rk_scenario.proofs.Sound.{Keeps, step_sound, end_sound_at}
@@ -246,3 +249,18 @@ pub faultless_are_texts : FaultlessAreTexts
 faultless_are_texts bytes =
     (λ e. let r = none_reads (verdict bytes) e in (r.0, reads_texts bytes r.0 r.1),
       λ text. ap fault_in (reads_each_text bytes text.0 text.1))
+
+-- ---- what an answer says
+
+pub text_from_answer : (bytes : List ℕ) (r : Result Scenario ScenarioError) → Answers r (verdict bytes) → IfOk r (ScenarioText bytes)
+text_from_answer bytes (Ok s) answer = reads_texts bytes s answer
+text_from_answer bytes (Err e) answer = tt
+
+pub known_from_answer : (bytes : List ℕ) (r : Result Scenario ScenarioError) → Answers r (verdict bytes) → IfOk r IsScenario
+known_from_answer bytes (Ok s) answer = record { bytes = bytes; text = reads_texts bytes s answer }
+known_from_answer bytes (Err e) answer = tt
+
+pub refusal_from_answer : (bytes : List ℕ) (r : Result Scenario ScenarioError) → Answers r (verdict bytes) → IfErr r (IsRefusal bytes)
+refusal_from_answer bytes (Ok s) answer = tt
+refusal_from_answer bytes (Err (Refused line why)) answer = ap fault_in answer
+refusal_from_answer bytes (Err Memory) answer = tt

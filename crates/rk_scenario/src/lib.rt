@@ -3,6 +3,7 @@
 
 mod draft;
 mod errors;
+pub mod laws;
 mod lines;
 mod operands;
 mod ops;
