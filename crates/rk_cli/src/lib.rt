@@ -1,5 +1,9 @@
 //! What the command line does: it reads a scenario and writes the schedule of its least history.
 #![tactic(auto)]
 
+mod answer;
 mod pieces;
 mod schedule;
+mod top;
+
+pub use top::plain_top;

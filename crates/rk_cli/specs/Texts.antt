@@ -1,0 +1,32 @@
+-- The texts that are written: the usage text, refusals and schedules.
+use Rattle.std.specs.Prelude.{ℕ, List, [], ◌∷◌, ◌++◌, codes}
+use Rattle.std.specs.Fmt.{decimal}
+use Rattle.rk_model.specs.declared.scenario.Scenario.{Scenario}
+use Rattle.rk_model.specs.declared.scenario.ScenarioWhy.{ScenarioWhy}
+use Rattle.rk_model.specs.declared.scenario.ScenarioWhy.TheVariants.{Header, TooLarge, NotYetBuilt}
+use Rattle.rk_model.specs.declared.entry.Entry.{Entry}
+use Rattle.rk_model.specs.Reading.{Fault}
+use Rattle.rk_model.specs.Histories.{lowest}
+use Rattle.rk_model.specs.Schedules.{schedule_text}
+
+-- how the program is called
+unfoldable pub usage_text : List ℕ
+usage_text = codes "usage: rtems_smp run | plan | check | big N" ++ 10 ∷ []
+
+-- the word for what is wrong with a text
+unfoldable pub why_text : ScenarioWhy → List ℕ
+why_text Header = codes "Header"
+why_text TooLarge = codes "TooLarge"
+why_text NotYetBuilt = codes "NotYetBuilt"
+
+-- the refusal of a text for its first fault: the line, and what is wrong with it
+unfoldable pub refusal_text : Fault → List ℕ
+refusal_text fault = codes "scenario line " ++ decimal fault.line ++ codes ": " ++ why_text fault.why ++ 10 ∷ []
+
+-- the history of a scenario that is planned: always the least processor that has a directive acts, else the clock, up to End or to the scenario's limit
+abbrev pub planned : Scenario → List Entry
+planned s = lowest s s.limit
+
+-- the schedule of the planned history
+abbrev pub plan_text : Scenario → List ℕ
+plan_text s = schedule_text s (planned s)
