@@ -5,3 +5,8 @@ pub mod Ranks
 pub mod Ranges
 pub mod Clusters
 pub mod Settling
+pub mod Indices
+pub mod Bounds
+pub mod Timing
+pub mod Gentle
+pub mod Sleeping
