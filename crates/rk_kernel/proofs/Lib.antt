@@ -3,3 +3,9 @@ pub mod Ranks
 pub mod Ranges
 pub mod Clusters
 pub mod Settling
+pub mod Counts
+pub mod Moving
+pub mod Assigning
+pub mod Soundness
+pub mod Callers
+pub mod Openings
