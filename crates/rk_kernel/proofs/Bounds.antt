@@ -13,7 +13,7 @@ use Rattle.rk_kernel.specs.Sound.{IsSound, IsInBounds, is_in_call}
 
 -- the bounds of what stands where there is no thread
 pub none_bounds : (n p : ℕ) → 0 < n → IsInBounds n p no_thread
-none_bounds n p some = record { home = some; line = omega arith; working = λ w. omega arith; calling = λ w. absurd (false≢true w); computed = omega arith }
+none_bounds n p some = record { home = some; line = omega arith; working = λ w. omega arith; calling = λ w. absurd (false≢true w); apart = λ w. refl; computed = omega arith }
 
 -- the bounds of a thread that is looked up
 pub bounds_at : (k : Plain) (t : ℕ) → IsSound k → IsInBounds (length k.clusters) k.present (thread_at k t)
@@ -47,5 +47,6 @@ arrived_bounds s n p thread line short home low computed free = record {
   line = low;
   working = λ w. line_in s.bodies thread.body line short (some_work (op_at s thread.body line) w);
   calling = λ w. absurd (false≢true (rw free at w));
+  apart = λ w. free;
   computed = computed;
 }

@@ -121,3 +121,19 @@ caller_waits_not k p t sound h =
 
 pub caller_within : (k : Plain) (p t : ℕ) → IsSound k → caller k p ≡ Some t → (0 < t) × (t ≤ 64)
 caller_within k p t sound h = seated_within k p t sound (ready_view k (cpu_at k p) t h).0
+
+left_zero : (k : Plain) (u t : ℕ) (b : Bool) → ((thread_at k u).left == 0) ≡ b → cond b (Some u) None ≡ Some t → (thread_at k t).left ≡ 0
+left_zero k u t true e h = let same : u ≡ t = cc in subst (λ (v : ℕ). (thread_at k v).left ≡ 0) same (grind (arith, nat_tests, e))
+left_zero k u t false e h = let no : ⊥ = cc in absurd no
+
+ready_left : (k : Plain) (u t : ℕ) (b : Bool) → ready k (cond b (Spins u) (Runs u)) ≡ Some t → (thread_at k t).left ≡ 0
+ready_left k u t true h = let no : ⊥ = cc in absurd no
+ready_left k u t false h = left_zero k u t ((thread_at k u).left == 0) refl h
+
+viewed_left : (k : Plain) (o : Option ℕ) (t : ℕ) → ready k (view_of k o) ≡ Some t → (thread_at k t).left ≡ 0
+viewed_left k None t h = let no : ⊥ = cc in absurd no
+viewed_left k (Some u) t h = ready_left k u t (spins k u) h
+
+-- It has no work left.
+pub caller_works_not : (k : Plain) (p t : ℕ) → caller k p ≡ Some t → (thread_at k t).left ≡ 0
+caller_works_not k p t h = viewed_left k (cpu_at k p) t h

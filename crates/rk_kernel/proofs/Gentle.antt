@@ -78,7 +78,7 @@ is_timed_other k t d u thread other = rw (nth-with_other no_thread thread k.thre
 pub exit_gentle : (k : Plain) (t : ℕ) → IsSound k → IsGentle k (task_exit k t).next
 exit_gentle k t sound =
     let b = bounds_at k t sound in
-    gentle_put k t (record (thread_at k t) { life = Ended }) sound refl refl (record { home = b.home; line = b.line; working = b.working; calling = b.calling; computed = b.computed })
+    gentle_put k t (record (thread_at k t) { life = Ended }) sound refl refl (record { home = b.home; line = b.line; working = b.working; calling = b.calling; apart = b.apart; computed = b.computed })
 
 -- a thread that is in no call goes on
 pub go_on_gentle : (k : Plain) (t : ℕ) → IsSound k → (thread_at k t).line ≤ 1000 → is_in_call (thread_at k t).wait (thread_at k t).finished ≡ false → IsGentle k (go_on k t)

@@ -16,3 +16,5 @@ pub mod Assigning
 pub mod Soundness
 pub mod Callers
 pub mod Openings
+pub mod Ready
+pub mod Passing

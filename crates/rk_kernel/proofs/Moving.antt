@@ -57,7 +57,7 @@ times-moved before now last threads c line t held =
     let one = one_place ((nth no_thread threads t).home == c) is.eligible was.eligible (nat_lt is.prio was.prio) (has last t) (nat_lt was.prio is.prio) (times t r) in
     a ∙ (rw (f, s, e, held) one)
 
-length-standings : (k : Plain) (a n : ℕ) → length (standings_from k a n) ≡ n
+pub length-standings : (k : Plain) (a n : ℕ) → length (standings_from k a n) ≡ n
 length-standings k a zero = refl
 length-standings k a (suc n) = omega (arith, length-standings k (a + 1) n)
 

@@ -14,6 +14,7 @@ use Rattle.rk_model.specs.Lines.{has_cpu}
 use Rattle.rk_model.specs.Running.{all_cpus}
 use Rattle.rk_model.specs.Histories.{begun, places, free_cluster, vacant, started, opening}
 use Rattle.rk_model.specs.Limits.{IsWithinLimits, cpus_in}
+use Rattle.rk_kernel.proofs.Bounds.{none_bounds}
 use Rattle.rk_kernel.specs.Sound.{stands, own, is_timed, AllSound, IsInBounds, IsSound, KeepsLines, AllTimed, IsGentle}
 use Rattle.rk_kernel.proofs.Counts.{times-filter}
 use Rattle.rk_kernel.proofs.Moving.{no_matter}
@@ -82,16 +83,13 @@ keeps_all : (clusters : List ClusterState) → KeepsLines clusters clusters
 keeps_all [] = tt
 keeps_all (cluster ∷ clusters) = (refl, refl, keeps_all clusters)
 
-bounds_none : (m : ℕ) → 0 < m → IsInBounds m 0 no_thread
-bounds_none m some = record { home = some; line = omega arith; working = λ w. omega arith; computed = omega arith }
-
 -- a thread of an init line is within its bounds
 bounds_begun : (s : Scenario) (init : Init) (m : ℕ) → init.cluster < m → IsInBounds m 0 (begun s init)
-bounds_begun s init m home = record { home = home; line = omega arith; working = λ w. omega arith; computed = omega arith }
+bounds_begun s init m home = record { home = home; line = omega arith; working = λ w. omega arith; calling = λ w. absurd (false≢true w); apart = λ w. refl; computed = omega arith }
 
 all_begun : (s : Scenario) (m n : ℕ) (inits : List Init) → 0 < m → AllByRecursion (λ (init : Init). init.cluster < m) inits → AllByRecursion (IsInBounds m 0) (places n (map (begun s) inits))
 all_begun s m zero inits some homes = tt
-all_begun s m (suc n) [] some homes = (bounds_none m some, all_begun s m n [] some tt)
+all_begun s m (suc n) [] some homes = (none_bounds m 0 some, all_begun s m n [] some tt)
 all_begun s m (suc n) (init ∷ inits) some homes = (bounds_begun s init m homes.0, all_begun s m n inits some homes.1)
 
 waits_not_from : (s : Scenario) (n : ℕ) (inits : List Init) (i : ℕ) → (get_or (places n (map (begun s) inits)) i no_thread).wait ≡ None

@@ -69,7 +69,7 @@ cpus-settled move key threads c (cluster ∷ clusters) =
     let a = length-assigned cluster.cpus (most_urgent key (length cluster.cpus) (moved move threads c cluster.line)) in
     length-append (settled_cluster move key threads c cluster).cpus (all_cpus (settled_from move key threads (c + 1) clusters)) ∙ (rw (a, cpus-settled move key threads (c + 1) clusters) refl) ∙ sym (length-append cluster.cpus (all_cpus clusters))
 
-length-kept : (olds news : List ClusterState) → KeepsLines olds news → length news ≡ length olds
+pub length-kept : (olds news : List ClusterState) → KeepsLines olds news → length news ≡ length olds
 length-kept [] [] keeps = refl
 length-kept [] (b ∷ news) keeps = absurd keeps
 length-kept (a ∷ olds) [] keeps = absurd keeps

@@ -58,6 +58,7 @@ pub record IsInBounds (clusters present : ℕ) (thread : Thread) : Type 0 where
   pub line : thread.line ≤ 1001
   pub working : 0 < thread.left → thread.line ≤ 1000
   pub calling : is_in_call thread.wait thread.finished ≡ true → thread.line ≤ 1000
+  pub apart : 0 < thread.left → is_in_call thread.wait thread.finished ≡ false
   pub computed : thread.computed ≤ present
 
 pub record IsSound (k : Plain) : Type 0 where
