@@ -5,3 +5,16 @@ pub mod Ranks
 pub mod Ranges
 pub mod Clusters
 pub mod Settling
+pub mod Indices
+pub mod Bounds
+pub mod Timing
+pub mod Gentle
+pub mod Sleeping
+pub mod Counts
+pub mod Moving
+pub mod Assigning
+pub mod Soundness
+pub mod Callers
+pub mod Openings
+pub mod Ready
+pub mod Passing

@@ -3,6 +3,8 @@ use Rattle.std.specs.Prelude.{ℕ, ◌+◌, ◌<◌, ◌≤◌, ◌≡◌, List,
 use Rattle.std.specs.List.{range_with_len, AllByRecursion}
 use Rattle.rk_model.specs.declared.scenario.Body.{Body}
 use Rattle.rk_model.specs.declared.state.Thread.{Thread}
+use Rattle.rk_model.specs.declared.state.Armed.{Armed}
+use Rattle.rk_model.specs.declared.entry.Reply.{Reply}
 use Rattle.rk_model.specs.declared.state.Wait.{Wait}
 use Rattle.rk_model.specs.declared.state.Wait.TheVariants.{ForTime}
 use Rattle.rk_model.specs.Lists.{has, times}
@@ -44,11 +46,19 @@ abbrev pub AllSound : Plain → ℕ → List ClusterState → Type 0
 AllSound k c [] = Unit {0}
 AllSound k c (cluster ∷ clusters) = IsClusterSound k c cluster × AllSound k (c + 1) clusters
 
+-- whether a thread is in a directive that waits: its wait goes on, or it has ended and the thread hasn't returned
+abbrev pub is_in_call : Option Wait → Option Reply → Bool
+is_in_call None None = false
+is_in_call None (Some reply) = true
+is_in_call (Some w) finished = true
+
 -- a thread's home, place and counts are within their limits
 pub record IsInBounds (clusters present : ℕ) (thread : Thread) : Type 0 where
   pub home : thread.home < clusters
   pub line : thread.line ≤ 1001
   pub working : 0 < thread.left → thread.line ≤ 1000
+  pub calling : is_in_call thread.wait thread.finished ≡ true → thread.line ≤ 1000
+  pub apart : 0 < thread.left → is_in_call thread.wait thread.finished ≡ false
   pub computed : thread.computed ≤ present
 
 pub record IsSound (k : Plain) : Type 0 where

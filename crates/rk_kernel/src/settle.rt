@@ -166,6 +166,7 @@ fn settle_cluster(cluster: &mut ClusterPart, scratch: &mut Scratch, threads: &[T
     ensures before { scratch.new.before ≡ scratch.old.before }
     ensures now { scratch.new.now ≡ scratch.old.now }
     ensures last { scratch.new.last ≡ scratch.old.last }
+    ensures threads { scratch.new.threads ≡ scratch.old.threads }
 {
     settle_line(
         &mut cluster.line,
@@ -200,6 +201,7 @@ fn settle_all(clusters: &mut Items<ClusterPart>, scratch: &mut Scratch, threads:
     ensures before { scratch.new.before ≡ scratch.old.before }
     ensures now { scratch.new.now ≡ scratch.old.now }
     ensures last { scratch.new.last ≡ scratch.old.last }
+    ensures threads { scratch.new.threads ≡ scratch.old.threads }
 {
     for at in 0..clusters.len() {
         settle_cluster(clusters.at_mut(at), scratch, threads, at as u8);
@@ -217,6 +219,7 @@ pub(crate) fn settle_core(core: &mut Core, scratch: &mut Scratch)
     ensures before { scratch.new.before ≡ standings (plain_of core.new) }
     ensures size { length scratch.new.now ≡ length scratch.old.before }
     ensures last { scratch.new.last ≡ scratch.old.last }
+    ensures threads { scratch.new.threads ≡ scratch.old.threads }
 {
     note_all(&mut scratch.now, core);
     settle_all(&mut core.clusters, scratch, core.threads.as_slice());

@@ -22,6 +22,7 @@ loop-at-preserved c =
       before = c.settle_cluster.ensures.before ∙ c.loop-at.invariant.before;
       now = c.settle_cluster.ensures.now ∙ c.loop-at.invariant.now;
       last = c.settle_cluster.ensures.last ∙ c.loop-at.invariant.last;
+      threads = c.settle_cluster.ensures.threads ∙ c.loop-at.invariant.threads;
       room = rest_roomy move threads parts at part next within c.at_mut.ensures.value c.loop-at.invariant.room;
       told = part_settled move key threads parts at part next _ within c.at_mut.ensures.value done c.loop-at.invariant.told;
     }

@@ -10,6 +10,7 @@ invariant-loop-at l = record {
   before : l.scratch.before ≡ l.fn.scratch.before;
   now : l.scratch.now ≡ l.fn.scratch.now;
   last : l.scratch.last ≡ l.fn.scratch.last;
+  threads : l.scratch.threads ≡ l.fn.scratch.threads;
   room : AllRoomy (moves l.fn.scratch.before l.fn.scratch.now l.fn.scratch.last) l.threads l.at (clusters_of (drop l.at l.clusters));
   told : clusters_of (take l.at l.clusters) ++ settled_from (moves l.fn.scratch.before l.fn.scratch.now l.fn.scratch.last) (key_of l.fn.scratch.now) l.threads l.at (clusters_of (drop l.at l.clusters)) ≡ settled_from (moves l.fn.scratch.before l.fn.scratch.now l.fn.scratch.last) (key_of l.fn.scratch.now) l.threads 0 (clusters_of l.fn.clusters);
 }

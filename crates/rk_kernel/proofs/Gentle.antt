@@ -1,0 +1,87 @@
+-- Each directive changes little, so that settling makes the state sound again.
+use Rattle.std.proofs.Common.{◌≡◌, ◌≢◌, ℕ, zero, suc, ◌+◌, ◌-◌, ◌<◌, ◌≤◌, List, [], ◌∷◌, ◌++◌, Bool, true, false, cond, eqb, ◌&&◌, Option, None, Some, length, IsSome, arith, refl, sym, ◌∙◌, ap, length-append}
+use Rattle.std.specs.List.{slice_index_or, slice_set, AllByRecursion}
+use Rattle.std.proofs.lemmas.Bool.{false≢true}
+use Rattle.std.proofs.lemmas.Bool.Decides.{nat_tests}
+use Rattle.rk_model.specs.declared.scenario.Op.{Op}
+use Rattle.rk_model.specs.declared.scenario.Op.TheVariants.{Work, TaskWakeAfter}
+use Rattle.rk_model.specs.declared.entry.Reply.{Reply}
+use Rattle.rk_model.specs.declared.state.Life.TheVariants.{Ended}
+use Rattle.rk_model.specs.declared.state.Wait.{Wait}
+use Rattle.rk_model.specs.declared.state.Wait.TheVariants.{ForTime}
+use Rattle.rk_model.specs.declared.state.Thread.{Thread}
+use Rattle.rk_model.specs.declared.state.Armer.TheVariants.{Thread as OfThread}
+use Rattle.rk_model.specs.declared.state.Armed.{Armed}
+use Rattle.rk_model.specs.Lists.{times, nth}
+use Rattle.rk_model.specs.State.{Plain, ClusterState, no_thread, thread_at, put_thread, cluster_at, put_cluster, op_at}
+use Rattle.rk_model.specs.Timers.{sleepers, arm}
+use Rattle.rk_model.specs.Outcomes.{gone_on, go_on, begin_wait}
+use Rattle.rk_model.specs.Tasks.{task_exit, yield, sleep, task_wake_after}
+use Rattle.rk_model.specs.Steps.{directive, back, action_on, action}
+use Rattle.rk_kernel.specs.Sound.{IsSound, IsInBounds, IsGentle, AllTimed, is_timed, has_time, is_in_call}
+use Rattle.rk_kernel.proofs.Indices.{nth-with_same, nth-with_other, nth-with_kept, length-with_nth, All-with_nth}
+use Rattle.rk_kernel.proofs.Bounds.{bounds_at, line_in, arrived_bounds}
+use Rattle.rk_kernel.proofs.Timing.{keeps_same, keeps_timers, timed_same, timed_put, timers_at, is_timed-put_thread, is_timed-put_elsewhere}
+
+-- to put back a thread within its bounds, with its home and its wait
+pub gentle_put : (k : Plain) (t : ℕ) (thread : Thread) → IsSound k → thread.home ≡ (thread_at k t).home → thread.wait ≡ (thread_at k t).wait → IsInBounds (length k.clusters) k.present thread → IsGentle k (put_thread k t thread)
+gentle_put k t thread sound home wait bounds = record {
+  scenario = refl;
+  present = refl;
+  places = length-with_nth thread k.threads t;
+  homes = λ u _. nth-with_kept (λ (x : Thread). x.home) no_thread thread k.threads t u home;
+  threads = All-with_nth (IsInBounds (length k.clusters) k.present) thread k.threads t bounds sound.threads;
+  lines = keeps_same k.clusters;
+  timers = timed_same k (put_thread k t thread) 0 k.clusters (is_timed-put_thread k t thread home wait) sound.clusters;
+}
+
+elsewhere : (k : Plain) (t d : ℕ) → d ≢ (thread_at k t).home → eqb (thread_at k t).home d ≡ false
+elsewhere k t d other = grind (arith, nat_tests, other)
+
+-- who has a timer is asked of the threads alone
+is_timed-with_clusters : (k : Plain) (clusters : List ClusterState) (d u : ℕ) → is_timed (record k { clusters = clusters }) d u ≡ is_timed k d u
+unfolding is_timed
+is_timed-with_clusters k clusters d u = refl
+
+-- to put back a thread within its bounds, with its home, and other timers there, which are those of its threads whose wait has one
+pub gentle_timers : (k : Plain) (t h : ℕ) (thread : Thread) (timers : List Armed) → IsSound k → h ≡ (thread_at k t).home → thread.home ≡ (thread_at k t).home → IsInBounds (length k.clusters) k.present thread →
+    ((u : ℕ) → times u (sleepers timers) ≡ cond (is_timed (put_thread k t thread) h u) 1 0) →
+    IsGentle k (put_cluster (put_thread k t thread) h (record (cluster_at k h) { timers = timers }))
+gentle_timers k t h thread timers sound e home bounds here =
+    let clusters = slice_set k.clusters h (record (cluster_at k h) { timers = timers }) in
+    record {
+      scenario = refl;
+      present = refl;
+      places = length-with_nth thread k.threads t;
+      homes = λ u _. nth-with_kept (λ (x : Thread). x.home) no_thread thread k.threads t u home;
+      threads = All-with_nth (IsInBounds (length k.clusters) k.present) thread k.threads t bounds sound.threads;
+      lines = keeps_timers k.clusters h timers;
+      timers = timed_put k (record (put_thread k t thread) { clusters = clusters }) h 0 h k.clusters (record (cluster_at k h) { timers = timers }) (omega arith)
+        (λ d u other. is_timed-with_clusters (put_thread k t thread) clusters d u ∙ is_timed-put_elsewhere k t thread home d u (elsewhere k t d (λ q. other (q ∙ sym e))))
+        (λ u. here u ∙ ap (λ b. cond b 1 0) (sym (is_timed-with_clusters (put_thread k t thread) clusters h u)))
+        sound.clusters;
+    }
+
+home_is : (h : ℕ) (b : Bool) → ((eqb h h) && b) ≡ b
+home_is h b = grind (arith, nat_tests)
+
+-- a thread that was put has a timer in its home where its wait has one
+pub is_timed_here : (k : Plain) (t h : ℕ) (thread : Thread) → 0 < t → t ≤ length k.threads → thread.home ≡ h → is_timed (put_thread k t thread) h t ≡ has_time thread.wait
+unfolding is_timed
+is_timed_here k t h thread above within home = rw (nth-with_same no_thread thread k.threads t above within) (ap (λ x. (eqb x h) && has_time thread.wait) home ∙ home_is h (has_time thread.wait))
+
+-- the other threads have timers as before
+pub is_timed_other : (k : Plain) (t d u : ℕ) (thread : Thread) → u ≢ t → is_timed (put_thread k t thread) d u ≡ is_timed k d u
+unfolding is_timed
+is_timed_other k t d u thread other = rw (nth-with_other no_thread thread k.threads t u other) refl
+
+pub exit_gentle : (k : Plain) (t : ℕ) → IsSound k → IsGentle k (task_exit k t).next
+exit_gentle k t sound =
+    let b = bounds_at k t sound in
+    gentle_put k t (record (thread_at k t) { life = Ended }) sound refl refl (record { home = b.home; line = b.line; working = b.working; calling = b.calling; apart = b.apart; computed = b.computed })
+
+-- a thread that is in no call goes on
+pub go_on_gentle : (k : Plain) (t : ℕ) → IsSound k → (thread_at k t).line ≤ 1000 → is_in_call (thread_at k t).wait (thread_at k t).finished ≡ false → IsGentle k (go_on k t)
+go_on_gentle k t sound low free =
+    let b = bounds_at k t sound in
+    gentle_put k t (gone_on k.scenario (thread_at k t)) sound refl refl (arrived_bounds k.scenario (length k.clusters) k.present (thread_at k t) ((thread_at k t).line + 1) sound.bodies b.home (omega arith) b.computed free)

@@ -1,0 +1,104 @@
+-- The moves keep in each line exactly the eligible threads of its cluster.
+use Rattle.std.proofs.Common.{◌≡◌, ℕ, zero, suc, ◌+◌, ◌<◌, ◌≤◌, List, ◌++◌, Bool, true, false, cond, not, ◌&&◌, ◌==◌, nat_lt, length, get_or, ⊎_elim, arith, refl, ap, sym, ◌∙◌}
+use Rattle.std.specs.List.{filter, range_with_len}
+use Rattle.std.proofs.lemmas.List.{get_or_past}
+use Rattle.std.proofs.lemmas.Bool.{cases_lt}
+use Rattle.rk_model.specs.declared.settling.Standing.{Standing}
+use Rattle.rk_model.specs.declared.settling.Move.{Move}
+use Rattle.rk_model.specs.declared.settling.Move.TheVariants.{Stay, Leave, ToEnd, ToFront}
+use Rattle.rk_model.specs.declared.state.Thread.{Thread}
+use Rattle.rk_model.specs.Lists.{has, nth, times}
+use Rattle.rk_model.specs.State.{Plain, no_thread, thread_at}
+use Rattle.rk_model.specs.Priorities.{is_eligible, standing, standings, standings_from, no_standing, nth_standing}
+use Rattle.rk_model.specs.Settling.{is_stay, is_to_end, is_to_front, move_of, moves, makes, making, moved}
+use Rattle.rk_kernel.specs.Sound.{stands, own, IsGentle}
+use Rattle.rk_kernel.proofs.Counts.{times-append, times-filter, length_by_times, length_filter_le, length_range}
+
+-- the move, by what is asked of a thread: eligible now, eligible before, more urgent, last, less urgent
+abbrev chosen : Bool → Bool → Bool → Bool → Bool → Move
+chosen en eb lt la gt = cond (not en) Leave (cond (not eb) ToEnd (cond lt ToEnd (cond la ToEnd (cond gt ToFront Stay))))
+
+-- of the three places in the new line a thread has one where it is eligible, and else none
+one_place : (h en eb lt la gt : Bool) (n : ℕ) → (cond (h && is_to_front (chosen en eb lt la gt)) n 0 + cond (is_stay (chosen en eb lt la gt)) (cond (h && eb) n 0) 0) + cond (h && is_to_end (chosen en eb lt la gt)) n 0 ≡ cond (h && en) n 0
+one_place false false eb lt la gt n = omega arith
+one_place true false eb lt la gt n = omega arith
+one_place false true false lt la gt n = omega arith
+one_place true true false lt la gt n = omega arith
+one_place false true true true la gt n = omega arith
+one_place true true true true la gt n = omega arith
+one_place false true true false true gt n = omega arith
+one_place true true true false true gt n = omega arith
+one_place false true true false false true n = omega arith
+one_place true true true false false true n = omega arith
+one_place false true true false false false n = omega arith
+one_place true true true false false false n = omega arith
+
+-- how often an eligible thread of a cluster stands among all threads
+abbrev placed : List Standing → List Thread → ℕ → ℕ → ℕ
+placed standings threads c t = cond (((nth no_thread threads t).home == c) && (nth_standing standings t).eligible) (times t (range_with_len 1 (length threads))) 0
+
+-- how often a thread stands in the line after the moves
+times-moved : (before now : List Standing) (last : List ℕ) (threads : List Thread) (c : ℕ) (line : List ℕ) (t : ℕ) →
+    times t line ≡ placed before threads c t →
+    times t (moved (moves before now last) threads c line) ≡ placed now threads c t
+unfolding moves move_of makes
+times-moved before now last threads c line t held =
+    let r = range_with_len 1 (length threads) in
+    let was = nth_standing before t in
+    let is = nth_standing now t in
+    let move = moves before now last in
+    let front = making is_to_front move threads c in
+    let stay = filter (λ u. is_stay (move u)) line in
+    let ends = making is_to_end move threads c in
+    let a = times-append t (front ++ stay) ends ∙ ap (λ n. n + times t ends) (times-append t front stay) in
+    let f = times-filter (makes is_to_front move threads c) t r in
+    let s = times-filter (λ u. is_stay (move u)) t line in
+    let e = times-filter (makes is_to_end move threads c) t r in
+    let one = one_place ((nth no_thread threads t).home == c) is.eligible was.eligible (nat_lt is.prio was.prio) (has last t) (nat_lt was.prio is.prio) (times t r) in
+    a ∙ (rw (f, s, e, held) one)
+
+pub length-standings : (k : Plain) (a n : ℕ) → length (standings_from k a n) ≡ n
+length-standings k a zero = refl
+length-standings k a (suc n) = omega (arith, length-standings k (a + 1) n)
+
+standing_at : (k : Plain) (a n i : ℕ) → i < n → get_or (standings_from k a n) i no_standing ≡ standing k (a + i)
+standing_at k a zero i h = absurd (omega arith)
+standing_at k a (suc n) zero h = let e : a + 0 ≡ a = omega arith in rw e refl
+standing_at k a (suc n) (suc i) h = let e : a + suc i ≡ a + 1 + i = omega arith in rw e (standing_at k (a + 1) n i (omega arith))
+
+-- the register says of each index whether the thread there is eligible
+pub eligible_noted : (k : Plain) (t : ℕ) → (nth_standing (standings k) t).eligible ≡ is_eligible k t
+unfolding standing is_eligible
+eligible_noted k zero = refl
+eligible_noted k (suc i) =
+    ⊎_elim
+    (λ h. let e : 1 + i ≡ suc i = omega arith in rw (standing_at k 1 (length k.threads) i h, e) refl)
+    (λ h. rw (get_or_past k.threads i no_thread h, get_or_past (standings_from k 1 (length k.threads)) i no_standing (rw length-standings h)) refl)
+    (cases_lt i (length k.threads))
+
+pub no_matter : (b : Bool) → (b && false) ≡ false
+no_matter true = refl
+no_matter false = refl
+
+-- where a thread was eligible, it still has the home that it had
+same_home : (k next : Plain) (c t : ℕ) → IsGentle k next → (e : Bool) → is_eligible k t ≡ e → (((thread_at k t).home == c) && e) ≡ (((thread_at next t).home == c) && e)
+same_home k next c t gentle true is = rw (gentle.homes t is) refl
+same_home k next c t gentle false is = no_matter ((thread_at k t).home == c) ∙ sym (no_matter ((thread_at next t).home == c))
+
+own_placed : (k : Plain) (c t : ℕ) → times t (own k c) ≡ placed (standings k) k.threads c t
+unfolding stands
+own_placed k c t = times-filter (stands k c) t (range_with_len 1 (length k.threads)) ∙ (rw (eligible_noted k t) refl)
+
+was_placed : (k next : Plain) (c t : ℕ) → IsGentle k next → placed (standings k) k.threads c t ≡ placed (standings k) next.threads c t
+was_placed k next c t gentle = rw (eligible_noted k t, same_home k next c t gentle (is_eligible k t) refl, gentle.places) refl
+
+-- a line with exactly the eligible threads of its cluster has exactly those after the moves
+pub line_moved : (k next : Plain) (last : List ℕ) (c : ℕ) (line : List ℕ) → IsGentle k next → ((t : ℕ) → times t line ≡ times t (own k c)) → (t : ℕ) → times t (moved (moves (standings k) (standings next) last) next.threads c line) ≡ times t (own next c)
+line_moved k next last c line gentle held t =
+    times-moved (standings k) (standings next) last next.threads c line t (held t ∙ own_placed k c t ∙ was_placed k next c t gentle) ∙ sym (own_placed next c t)
+
+-- such a line has at most as many threads as there are
+pub line_short : (k : Plain) (c : ℕ) (line : List ℕ) → ((t : ℕ) → times t line ≡ times t (own k c)) → length line ≤ length k.threads
+line_short k c line held =
+    let le : (t : ℕ) → times t line ≤ times t (own k c) = λ t. omega (arith, held t) in
+    omega (arith, length_by_times line (own k c) le, length_filter_le (stands k c) (range_with_len 1 (length k.threads)), length_range 1 (length k.threads))

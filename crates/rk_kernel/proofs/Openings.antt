@@ -1,0 +1,138 @@
+-- The opening state is sound: it is the state with no task yet, changed gently and settled.
+use Rattle.std.proofs.Common.{◌≡◌, ℕ, zero, suc, ◌+◌, ◌<◌, ◌≤◌, List, [], ◌∷◌, false, cond, ◌==◌, Option, None, length, get_or, length-append, map, replicate, arith, refl, ap, sym, ◌∙◌}
+use Rattle.std.specs.List.{AllByRecursion, range_with_len}
+use Rattle.std.proofs.lemmas.List.{length-replicate, length-map}
+use Rattle.std.proofs.lemmas.List.Elements.{All-from_recursion}
+use Rattle.std.proofs.lemmas.Bool.{false≢true}
+use Rattle.rk_model.specs.declared.scenario.Scenario.{Scenario}
+use Rattle.rk_model.specs.declared.scenario.Init.{Init}
+use Rattle.rk_model.specs.declared.state.Thread.{Thread}
+use Rattle.rk_model.specs.Lists.{nth, times}
+use Rattle.rk_model.specs.State.{Plain, ClusterState, no_thread, thread_at}
+use Rattle.rk_model.specs.Priorities.{is_eligible}
+use Rattle.rk_model.specs.Lines.{has_cpu}
+use Rattle.rk_model.specs.Running.{all_cpus}
+use Rattle.rk_model.specs.Histories.{begun, places, free_cluster, vacant, started, opening}
+use Rattle.rk_model.specs.Limits.{IsWithinLimits, cpus_in}
+use Rattle.rk_kernel.proofs.Bounds.{none_bounds}
+use Rattle.rk_kernel.specs.Sound.{stands, own, is_timed, AllSound, IsInBounds, IsSound, KeepsLines, AllTimed, IsGentle}
+use Rattle.rk_kernel.proofs.Counts.{times-filter}
+use Rattle.rk_kernel.proofs.Moving.{no_matter}
+use Rattle.rk_kernel.proofs.Soundness.{sound_settled}
+
+length-places : (n : ℕ) (threads : List Thread) → length (places n threads) ≡ n
+length-places zero threads = refl
+length-places (suc n) [] = omega (arith, length-places n [])
+length-places (suc n) (thread ∷ threads) = omega (arith, length-places n threads)
+
+no_place_from : (n i : ℕ) → get_or (places n []) i no_thread ≡ no_thread
+no_place_from zero i = refl
+no_place_from (suc n) zero = refl
+no_place_from (suc n) (suc i) = no_place_from n i
+
+-- where there are places alone there is no thread
+no_place : (n t : ℕ) → nth no_thread (places n []) t ≡ no_thread
+no_place n zero = refl
+no_place n (suc i) = no_place_from n i
+
+never_eligible : (k : Plain) (t : ℕ) → thread_at k t ≡ no_thread → is_eligible k t ≡ false
+unfolding is_eligible
+never_eligible k t none = rw none refl
+
+never_stands : (k : Plain) (c t : ℕ) → is_eligible k t ≡ false → stands k c t ≡ false
+unfolding stands
+never_stands k c t none = rw none (no_matter ((thread_at k t).home == c))
+
+none_own : (k : Plain) (c t : ℕ) → is_eligible k t ≡ false → 0 ≡ times t (own k c)
+none_own k c t none = sym (times-filter (stands k c) t (range_with_len 1 (length k.threads)) ∙ (rw (never_stands k c t none) refl))
+
+never_timed : (k : Plain) (c t : ℕ) → (thread_at k t).wait ≡ None → is_timed k c t ≡ false
+unfolding is_timed
+never_timed k c t none = rw none (no_matter ((thread_at k t).home == c))
+
+none_timed : (k : Plain) (c t : ℕ) → (thread_at k t).wait ≡ None → ◌≡◌ {A = ℕ} 0 (cond (is_timed k c t) 1 0)
+none_timed k c t none = rw (never_timed k c t none) refl
+
+none_seated : (m t : ℕ) → has_cpu (replicate m None) t ≡ false
+none_seated zero t = refl
+none_seated (suc m) t = none_seated m t
+
+-- free clusters are sound where there is no thread
+all_free : (k : Plain) (c : ℕ) (counts : List ℕ) → ((t : ℕ) → thread_at k t ≡ no_thread) → cpus_in counts ≤ 8 → AllSound k c (map free_cluster counts)
+all_free k c [] none few = tt
+all_free k c (m ∷ counts) none few = (
+  record {
+    few_cpus = rw length-replicate (omega arith);
+    line = λ t. none_own k c t (never_eligible k t (none t));
+    manned = λ t h. absurd (false≢true (sym (none_seated m t) ∙ h));
+    timers = λ t. none_timed k c t (ap (λ (x : Thread). x.wait) (none t));
+  },
+  all_free k (c + 1) counts none (omega arith),
+)
+
+-- no timers serve threads that don't wait
+all_untimed : (k : Plain) (c : ℕ) (counts : List ℕ) → ((t : ℕ) → (thread_at k t).wait ≡ None) → AllTimed k c (map free_cluster counts)
+all_untimed k c [] none = tt
+all_untimed k c (m ∷ counts) none = (λ t. none_timed k c t (none t), all_untimed k (c + 1) counts none)
+
+cpus-free : (counts : List ℕ) → length (all_cpus (map free_cluster counts)) ≡ cpus_in counts
+cpus-free [] = refl
+cpus-free (m ∷ counts) = omega (arith, length-append (replicate m (let n : Option ℕ = None in n)) (all_cpus (map free_cluster counts)), length-replicate {A = Option ℕ}, cpus-free counts)
+
+keeps_all : (clusters : List ClusterState) → KeepsLines clusters clusters
+keeps_all [] = tt
+keeps_all (cluster ∷ clusters) = (refl, refl, keeps_all clusters)
+
+-- a thread of an init line is within its bounds
+bounds_begun : (s : Scenario) (init : Init) (m : ℕ) → init.cluster < m → IsInBounds m 0 (begun s init)
+bounds_begun s init m home = record { home = home; line = omega arith; working = λ w. omega arith; calling = λ w. absurd (false≢true w); apart = λ w. refl; computed = omega arith }
+
+all_begun : (s : Scenario) (m n : ℕ) (inits : List Init) → 0 < m → AllByRecursion (λ (init : Init). init.cluster < m) inits → AllByRecursion (IsInBounds m 0) (places n (map (begun s) inits))
+all_begun s m zero inits some homes = tt
+all_begun s m (suc n) [] some homes = (none_bounds m 0 some, all_begun s m n [] some tt)
+all_begun s m (suc n) (init ∷ inits) some homes = (bounds_begun s init m homes.0, all_begun s m n inits some homes.1)
+
+waits_not_from : (s : Scenario) (n : ℕ) (inits : List Init) (i : ℕ) → (get_or (places n (map (begun s) inits)) i no_thread).wait ≡ None
+waits_not_from s zero inits i = refl
+waits_not_from s (suc n) [] zero = refl
+waits_not_from s (suc n) [] (suc i) = waits_not_from s n [] i
+waits_not_from s (suc n) (init ∷ inits) zero = refl
+waits_not_from s (suc n) (init ∷ inits) (suc i) = waits_not_from s n inits i
+
+-- no thread waits at opening
+waits_not : (s : Scenario) (n : ℕ) (inits : List Init) (t : ℕ) → (nth no_thread (places n (map (begun s) inits)) t).wait ≡ None
+waits_not s n inits zero = refl
+waits_not s n inits (suc i) = waits_not_from s n inits i
+
+pub sound_vacant : (s : Scenario) → IsWithinLimits s → IsSound (vacant s)
+sound_vacant s within =
+    let size : length (vacant s).clusters ≡ length s.clusters = length-map s.clusters free_cluster in
+    record {
+      places = length-places 64 [];
+      few_clusters = rw size within.few_clusters;
+      some_cluster = rw size within.some_cluster;
+      few_cpus = rw (cpus-free s.clusters) within.few_cpus;
+      horizon = within.horizon;
+      present = omega arith;
+      bodies = within.bodies;
+      threads = rw size (All-from_recursion (IsInBounds (length s.clusters) 0) (places 64 []) (all_begun s (length s.clusters) 64 [] within.some_cluster tt));
+      clusters = all_free (vacant s) 0 s.clusters (no_place 64) within.few_cpus;
+    }
+
+pub gentle_started : (s : Scenario) → IsWithinLimits s → IsGentle (vacant s) (started s)
+gentle_started s within =
+    let size : length (vacant s).clusters ≡ length s.clusters = length-map s.clusters free_cluster in
+    let threads = places 64 (map (begun s) s.inits) in
+    record {
+      scenario = refl;
+      present = refl;
+      places = length-places 64 (map (begun s) s.inits) ∙ sym (length-places 64 []);
+      homes = λ t h. absurd (false≢true (sym (never_eligible (vacant s) t (no_place 64 t)) ∙ h));
+      threads = rw size (All-from_recursion (IsInBounds (length s.clusters) 0) threads (all_begun s (length s.clusters) 64 s.inits within.some_cluster within.homes));
+      lines = keeps_all (vacant s).clusters;
+      timers = all_untimed (started s) 0 s.clusters (waits_not s 64 s.inits);
+    }
+
+-- The opening state is sound.
+pub sound_opening : (s : Scenario) → IsWithinLimits s → IsSound (opening s)
+sound_opening s within = sound_settled (vacant s) (started s) [] (sound_vacant s within) (gentle_started s within)

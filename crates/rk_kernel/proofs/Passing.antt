@@ -1,0 +1,111 @@
+-- A tick that passes keeps a state sound, before any timer fires.
+use Rattle.std.proofs.Common.{◌≡◌, ℕ, zero, suc, ◌+◌, ◌-◌, ◌<◌, ◌≤◌, List, [], ◌∷◌, Bool, true, false, cond, eqb, ◌||◌, ◌&&◌, not, Option, None, Some, length, get_or, arith, refl, ap, sym, ◌∙◌}
+use Rattle.std.specs.List.{All, AllByRecursion, filter, range_with_len}
+use Rattle.std.proofs.lemmas.Bool.Decides.{nat_tests}
+use Rattle.std.proofs.lemmas.List.Elements.{filter_agree, All-from_recursion, recursion_from_All}
+use Rattle.rk_model.specs.declared.scenario.Scenario.{Scenario}
+use Rattle.rk_model.specs.declared.scenario.Body.{Body}
+use Rattle.rk_model.specs.declared.state.Thread.{Thread}
+use Rattle.rk_model.specs.declared.state.Wait.{Wait}
+use Rattle.rk_model.specs.declared.state.Wait.TheVariants.{ForTime}
+use Rattle.rk_model.specs.Lists.{times}
+use Rattle.rk_model.specs.State.{Plain, ClusterState, no_thread, thread_at}
+use Rattle.rk_model.specs.Priorities.{is_eligible, is_started, is_no_wait, spins_in}
+use Rattle.rk_model.specs.Running.{runs_somewhere}
+use Rattle.rk_model.specs.Ticks.{charged, ticked, charge_from, pass}
+use Rattle.rk_kernel.specs.Sound.{IsSound, IsInBounds, AllSound, own, stands, is_timed, has_time, is_in_call}
+use Rattle.rk_kernel.proofs.Bounds.{arrived_bounds}
+
+-- what holds at each of two outcomes of a test holds of the choice
+by_test : {X : Type 0} (P : X → Type 0) (b : Bool) (x y : X) → (b ≡ true → P x) → (b ≡ false → P y) → P (cond b x y)
+by_test P true x y f g = f refl
+by_test P false x y f g = g refl
+
+-- what doesn't look at a thread's line, work left and count of computed ticks, a tick doesn't change
+charged_steady : {Y : Type 0} (f : Thread → Y) (s : Scenario) (x : Thread) → ((x : Thread) (line left computed : ℕ) → f (record x { line = line; left = left; computed = computed }) ≡ f x) → f (charged s x) ≡ f x
+charged_steady f s x steady =
+    by_test (λ (y : Thread). f y ≡ f x) (eqb x.left 0) _ _ (λ _. refl)
+      (λ _. by_test (λ (y : Thread). f y ≡ f x) (eqb x.left 1) _ _ (λ _. steady x _ _ _) (λ _. steady x x.line _ _))
+
+charge_steady : {Y : Type 0} (f : Thread → Y) (k : Plain) (t : ℕ) (ts : List Thread) (i : ℕ) → ((x : Thread) (line left computed : ℕ) → f (record x { line = line; left = left; computed = computed }) ≡ f x) → f (get_or (charge_from k t ts) i no_thread) ≡ f (get_or ts i no_thread)
+unfolding ticked
+charge_steady f k t [] i steady = refl
+charge_steady f k t (x ∷ xs) zero steady = by_test (λ (y : Thread). f y ≡ f x) (runs_somewhere k t) _ _ (λ _. charged_steady f k.scenario x steady) (λ _. refl)
+charge_steady f k t (x ∷ xs) (suc i) steady = charge_steady f k (t + 1) xs i steady
+
+passed_steady : {Y : Type 0} (f : Thread → Y) (k : Plain) (t : ℕ) → ((x : Thread) (line left computed : ℕ) → f (record x { line = line; left = left; computed = computed }) ≡ f x) → f (thread_at (pass k) t) ≡ f (thread_at k t)
+passed_steady f k zero steady = refl
+passed_steady f k (suc i) steady = charge_steady f k 1 k.threads i steady
+
+pub length-charge_from : (k : Plain) (t : ℕ) (ts : List Thread) → length (charge_from k t ts) ≡ length ts
+length-charge_from k t [] = refl
+length-charge_from k t (x ∷ xs) = omega (arith, length-charge_from k (t + 1) xs)
+
+spins_alike : (k n : Plain) (wait : Option Wait) → spins_in n wait ≡ spins_in k wait
+spins_alike k n None = refl
+spins_alike k n (Some ForTime) = refl
+
+eligible-pass : (k : Plain) (t : ℕ) → is_eligible (pass k) t ≡ is_eligible k t
+unfolding is_eligible
+eligible-pass k t =
+    let n = pass k in
+    ap (λ b. is_started (thread_at n t).life && not (thread_at n t).suspended && (is_no_wait (thread_at n t).wait || b)) (spins_alike k n (thread_at n t).wait)
+    ∙ passed_steady (λ (x : Thread). is_started x.life && not x.suspended && (is_no_wait x.wait || spins_in k x.wait)) k t (λ _ _ _ _. refl)
+
+stands-pass : (k : Plain) (c t : ℕ) → stands (pass k) c t ≡ stands k c t
+unfolding stands
+stands-pass k c t =
+    ap (λ b. (eqb (thread_at (pass k) t).home c) && b) (eligible-pass k t) ∙ ap (λ h. (eqb h c) && is_eligible k t) (passed_steady (λ (x : Thread). x.home) k t (λ _ _ _ _. refl))
+
+timed-pass : (k : Plain) (c t : ℕ) → is_timed (pass k) c t ≡ is_timed k c t
+unfolding is_timed
+timed-pass k c t = passed_steady (λ (x : Thread). (eqb x.home c) && has_time x.wait) k t (λ _ _ _ _. refl)
+
+own-pass : (k : Plain) (c : ℕ) → own (pass k) c ≡ own k c
+own-pass k c = rw length-charge_from (filter_agree (stands (pass k) c) (stands k c) (stands-pass k c) (range_with_len 1 (length k.threads)))
+
+sound_clusters : (k : Plain) (c : ℕ) (clusters : List ClusterState) → AllSound k c clusters → AllSound (pass k) c clusters
+sound_clusters k c [] sound = tt
+sound_clusters k c (cluster ∷ clusters) sound =
+    (record {
+      few_cpus = sound.0.few_cpus;
+      line = λ t. sound.0.line t ∙ ap (times t) (sym (own-pass k c));
+      manned = sound.0.manned;
+      timers = λ t. sound.0.timers t ∙ ap (λ b. cond b 1 0) (sym (timed-pass k c t));
+    }, sound_clusters k (c + 1) clusters sound.1)
+
+-- a thread that is charged in a tick is within the bounds after it
+charged_bounds : (s : Scenario) (n p : ℕ) (x : Thread) → AllByRecursion (λ (body : Body). length body.lines ≤ 1000) s.bodies → IsInBounds n p x → IsInBounds n (p + 1) (charged s x)
+charged_bounds s n p x short b =
+    let P : Thread → Type 0 = IsInBounds n (p + 1) in
+    by_test P (eqb x.left 0) _ _ (λ _. record { home = b.home; line = b.line; working = b.working; calling = b.calling; apart = b.apart; computed = omega (arith, b.computed) })
+      (λ some. by_test P (eqb x.left 1) _ _
+        (λ one.
+          let left : 0 < x.left = grind (arith, nat_tests) in
+          let a = arrived_bounds s n p x (x.line + 1) short b.home (omega (arith, b.working left)) b.computed (b.apart left) in
+          record { home = a.home; line = a.line; working = a.working; calling = a.calling; apart = a.apart; computed = omega (arith, b.computed) })
+        (λ more. record { home = b.home; line = b.line; working = λ w. b.working (omega (arith, w)); calling = b.calling; apart = λ w. b.apart (omega (arith, w)); computed = omega (arith, b.computed) }))
+
+later_bounds : (n p : ℕ) (x : Thread) → IsInBounds n p x → IsInBounds n (p + 1) x
+later_bounds n p x b = record { home = b.home; line = b.line; working = b.working; calling = b.calling; apart = b.apart; computed = omega (arith, b.computed) }
+
+charge_bounds : (k : Plain) (n t : ℕ) (ts : List Thread) → AllByRecursion (λ (body : Body). length body.lines ≤ 1000) k.scenario.bodies → AllByRecursion (IsInBounds n k.present) ts → AllByRecursion (IsInBounds n (k.present + 1)) (charge_from k t ts)
+unfolding ticked
+charge_bounds k n t [] short all = tt
+charge_bounds k n t (x ∷ xs) short all =
+    let P : Thread → Type 0 = IsInBounds n (k.present + 1) in
+    (by_test P (runs_somewhere k t) _ _ (λ _. charged_bounds k.scenario n k.present x short all.0) (λ _. later_bounds n k.present x all.0), charge_bounds k n (t + 1) xs short all.1)
+
+-- A tick below the horizon keeps a state sound.
+pub sound_pass : (k : Plain) → IsSound k → k.present < k.scenario.horizon → IsSound (pass k)
+sound_pass k sound below = record {
+  places = length-charge_from k 1 k.threads ∙ sound.places;
+  few_clusters = sound.few_clusters;
+  some_cluster = sound.some_cluster;
+  few_cpus = sound.few_cpus;
+  horizon = sound.horizon;
+  present = omega arith;
+  bodies = sound.bodies;
+  threads = All-from_recursion (IsInBounds (length k.clusters) (k.present + 1)) _ (charge_bounds k (length k.clusters) 1 k.threads sound.bodies (recursion_from_All (IsInBounds (length k.clusters) k.present) k.threads sound.threads));
+  clusters = sound_clusters k 0 k.clusters sound.clusters;
+}
