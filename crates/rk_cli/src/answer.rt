@@ -1,6 +1,7 @@
 //! What planning has to say about a source.
 
 ghost use Rattle.std.specs.Prelude.{◌≡◌, ◌≤◌, ◌++◌, OnOk, IfOk};
+ghost use Rattle.rk_io.specs.Bytes.{ConsumesPrefix};
 ghost use Rattle.rk_model.specs.Histories.{ends};
 ghost use Rattle.rk_model.specs.Scenarios.{IsScenario};
 ghost use Rattle.rk_cli.specs.Texts.{why_text, refusal_text, planned, plan_text};
@@ -78,6 +79,7 @@ fn write_plan(alloc: Global, scenario: &Scenario) -> Result<(Vec<u8>, bool), NoM
 pub(crate) fn plan_answer<S: Source>(alloc: Global, source: &mut S) -> Answer
     ensures answer { IsAnswer (S.left source.old) (S.left source.new)
         (S.faults source.old) (S.faults source.new) result }
+    ensures taken { ConsumesPrefix (S.left source.old) (S.left source.new) }
     ensures later { S.faults source.old ≤ S.faults source.new }
 {
     let input = match read_all(alloc, source, MOST_BYTES) {

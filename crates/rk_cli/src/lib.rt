@@ -4,6 +4,9 @@
 mod answer;
 mod pieces;
 mod schedule;
+mod status;
+#[cfg(test)]
+mod tests;
 mod top;
 
 pub use top::plain_top;

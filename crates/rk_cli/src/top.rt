@@ -2,13 +2,14 @@
 
 ghost use Rattle.std.specs.Prelude.{◌≡◌, ◌≢◌, ◌≤◌, ◌↔◌, [], ◌∷◌, IsTrue, string_bytes};
 ghost use Rattle.rk_io.specs.Causes.{Rose};
-ghost use Rattle.rk_io.specs.Bytes.{Appends, AppendsPrefix};
+ghost use Rattle.rk_io.specs.Bytes.{ConsumesPrefix, Appends, AppendsPrefix};
 ghost use Rattle.rk_cli.specs.Texts.{usage_text};
 ghost use Rattle.rk_cli.specs.Plans.{HasPlan, HasCutPlan, HasRefusal, HasPart, HasAtMostPart};
 ghost use Rattle.rk_cli.specs.Statuses.{IsPlan, IsOneOf, PlansText, RefusesFault};
 ghost use Rattle.rk_cli.specs.Answers.{Emits, IsRun};
 
 use crate::answer::{Answer, plan_answer};
+use crate::status::{LIMITED, NO_MEMORY, PLANNED, READ_FAULT, REFUSED, USAGE, WRITE_FAULT};
 use rk_io::{Sink, Source, WriteError, write_all};
 use std::alloc::Global;
 
@@ -21,8 +22,8 @@ fn emit<K: Sink>(sink: &mut K, text: &[u8], status: u8) -> u8
 {
     match write_all(sink, text) {
         Ok(()) => status,
-        Err(WriteError::Failed) => 6,
-        Err(WriteError::Memory) => 3,
+        Err(WriteError::Failed) => WRITE_FAULT,
+        Err(WriteError::Memory) => NO_MEMORY,
     }
 }
 
@@ -32,7 +33,11 @@ fn emit_usage<K: Sink>(sink: &mut K) -> u8
     ensures { Emits (K.taken_so_far sink.old) (K.taken_so_far sink.new)
         (K.faults sink.old) (K.faults sink.new) usage_text 1 result }
 {
-    emit(sink, b"usage: rtems_smp run | plan | check | big N\n", 1)
+    emit(
+        sink,
+        b"usage: rtems_smp run | plan | check | big N\n",
+        USAGE,
+    )
 }
 
 /// Whether there is one word, and it is `plan`.
@@ -52,15 +57,16 @@ fn plan<S: Source, K: Sink>(alloc: Global, source: &mut S, sink: &mut K) -> u8
     ensures read_fault { result ≡ 5 → Rose (S.faults source.old) (S.faults source.new) }
     ensures unwritten { result ≡ 5 → sink.new ≡ sink.old }
     ensures write_fault { result ≡ 6 → Rose (K.faults sink.old) (K.faults sink.new) }
+    ensures taken { ConsumesPrefix (S.left source.old) (S.left source.new) }
     ensures source_count { S.faults source.old ≤ S.faults source.new }
     ensures sink_count { K.faults sink.old ≤ K.faults sink.new }
 {
     match plan_answer(alloc, source) {
-        Answer::Planned(text) => emit(sink, text.as_slice(), 0),
-        Answer::Limited(text) => emit(sink, text.as_slice(), 4),
-        Answer::Refused(text) => emit(sink, text.as_slice(), 2),
-        Answer::ReadFault => 5,
-        Answer::NoMemory => 3,
+        Answer::Planned(text) => emit(sink, text.as_slice(), PLANNED),
+        Answer::Limited(text) => emit(sink, text.as_slice(), LIMITED),
+        Answer::Refused(text) => emit(sink, text.as_slice(), REFUSED),
+        Answer::ReadFault => READ_FAULT,
+        Answer::NoMemory => NO_MEMORY,
     }
 }
 
@@ -110,10 +116,10 @@ pub fn plain_top<S: Source, K: Sink>(
     ensures write_fault { result ≡ 6 → Rose (K.faults sink.old) (K.faults sink.new) }
     ensures part { IsPlan string_bytes words.now → result ≡ 6
         → HasPart (S.left source.old) (S.left source.new)
-            (K.taken_so_far sink.old) (K.taken_so_far sink.new) }
+        (K.taken_so_far sink.old) (K.taken_so_far sink.new) }
     ensures memory { IsPlan string_bytes words.now → result ≡ 3
         → HasAtMostPart (S.left source.old) (S.left source.new)
-            (K.taken_so_far sink.old) (K.taken_so_far sink.new) }
+        (K.taken_so_far sink.old) (K.taken_so_far sink.new) }
 
     // Which status comes for `plan`.
     ensures texts { IsPlan string_bytes words.now
@@ -128,6 +134,9 @@ pub fn plain_top<S: Source, K: Sink>(
         → ¬ Rose (S.faults source.old) (S.faults source.new)
         → ¬ Rose (K.faults sink.old) (K.faults sink.new)
         → RefusesFault (S.left source.old) (3 ∷ []) result }
+
+    // However it ends, the source gave bytes in their order.
+    ensures taken { ConsumesPrefix (S.left source.old) (S.left source.new) }
 
     // The counts of faults never fall.
     ensures source_count { S.faults source.old ≤ S.faults source.new }

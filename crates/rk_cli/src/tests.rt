@@ -1,0 +1,88 @@
+use crate::plain_top;
+use rk_io::{MemSink, MemSource, SureSink, SureSource};
+use std::alloc::Global;
+use std::test::Fail;
+
+const SHORT: &str = "rtems 1\ncluster 1\nticks 0\n";
+
+const TWO_TASKS: &str =
+    "rtems 1\ncluster 1\nticks 3\nbody a\nwork 1\ntask.wake_after 1\nend\nbody b\ntask.wake_after 0\nwork 1\nend\ninit AAAA 0 10 a\ninit BBBB 0 20 b\n";
+
+const TWO_TASKS_SCHEDULE: &str =
+    "schedule 1\ntick 1 t1\np0 t1 a:2 task.wake_after waits\np0 t2 b:1 task.wake_after done 0 0\ntick 2 t2\np0 t1 a:2 task.wake_after back 0 0\np0 t1 a:3 task.exit done 1 0\np0 t2 b:3 task.exit done 1 0\ntick 3 -\nend 3\n";
+
+const USAGE: &str = "usage: rtems_smp run | plan | check | big N\n";
+
+/// The status of a call with one word, or with none, and the bytes that the sink got.
+fn run(alloc: Global, word: Option<&str>, text: &[u8]) -> Result<(u8, SureSink), Fail> {
+    let mut words = Vec::new(alloc);
+    if let Some(word) = word {
+        words.push(String::from_str(alloc, word)?)?;
+    }
+    let mut source = SureSource::new(Vec::from_slice(alloc, text)?);
+    let mut sink = SureSink::new(alloc);
+    let status = plain_top(alloc, words.as_slice(), &mut source, &mut sink);
+    Ok((status, sink))
+}
+
+#[test]
+fn writes_whole_texts(rt: HostRuntime) -> Result<(), Fail> {
+    let rows = [
+        (Some("plan"), SHORT, "schedule 1\nend 0\n", 0),
+        (Some("plan"), TWO_TASKS, TWO_TASKS_SCHEDULE, 0),
+        (Some("plan"), "", "scenario line 1: Header\n", 2),
+        (
+            Some("plan"),
+            "rtems 1\ncluster 2\nticks 0\n",
+            "scenario line 2: NotYetBuilt\n",
+            2,
+        ),
+        (
+            Some("plan"),
+            "rtems 1\ncluster x\n",
+            "scenario line 2: NotYetBuilt\n",
+            2,
+        ),
+        (Some("frob"), SHORT, USAGE, 1),
+        (None, SHORT, USAGE, 1),
+    ];
+    for (word, text, want, status) in rows {
+        let (got, sink) = run(rt.alloc(), word, text.as_bytes())?;
+        assert_eq!(rt; sink.written(), want.as_bytes());
+        assert_eq!(rt; got, status);
+    }
+    Ok(())
+}
+
+#[test]
+fn refuses_large_texts(rt: HostRuntime) -> Result<(), Fail> {
+    let text = vec![in rt.alloc(); b'#'; 1_048_577]?;
+    let (status, sink) = run(rt.alloc(), Some("plan"), text.as_slice())?;
+    assert_eq!(rt; sink.written(), b"scenario line 0: TooLarge\n".as_slice());
+    assert_eq!(rt; status, 2);
+    Ok(())
+}
+
+#[test]
+fn tells_faults(rt: HostRuntime) -> Result<(), Fail> {
+    let alloc = rt.alloc();
+    let words = vec![in alloc; String::from_str(alloc, "plan")?]?;
+
+    let text = Vec::from_slice(alloc, SHORT.as_bytes())?;
+    let mut source = MemSource::new(text, 8, vec![in alloc; 2]?);
+    let mut sink = SureSink::new(alloc);
+    assert_eq!(rt;
+        plain_top(alloc, words.as_slice(), &mut source, &mut sink),
+        5
+    );
+    assert_eq!(rt; sink.written().len(), 0);
+
+    let mut source = SureSource::new(Vec::from_slice(alloc, SHORT.as_bytes())?);
+    let mut sink = MemSink::new(alloc, 4, vec![in alloc; 2]?);
+    assert_eq!(rt;
+        plain_top(alloc, words.as_slice(), &mut source, &mut sink),
+        6
+    );
+    assert_eq!(rt; sink.written(), b"sche".as_slice());
+    Ok(())
+}
