@@ -1,5 +1,5 @@
 -- A planned history that doesn't end with End has as many entries as the limit.
-use Rattle.std.proofs.Common.{◌≡◌, ℕ, zero, suc, ◌+◌, ◌<◌, ◌≤◌, List, [], ◌∷◌, ◌++◌, Bool, true, false, cond, eqb, nat_lt, Option, Some, None, length, unwrap_or, arith, refl, sym, ◌∙◌, length-append}
+use Rattle.std.proofs.Common.{◌≡◌, ℕ, zero, suc, ◌+◌, ◌<◌, ◌≤◌, List, [], ◌∷◌, Bool, true, false, cond, eqb, nat_lt, Option, Some, None, length, unwrap_or, arith, refl, ◌∙◌, length-append}
 use Rattle.std.specs.List.{slice_index_or, slice_set}
 use Rattle.std.proofs.lemmas.Bool.Decides.{nat_tests}
 use Rattle.rk_model.specs.declared.scenario.Scenario.{Scenario}
@@ -11,14 +11,14 @@ use Rattle.rk_model.specs.declared.entry.Reply.{Reply}
 use Rattle.rk_model.specs.declared.settling.Move.{Move}
 use Rattle.rk_model.specs.declared.state.Armed.{Armed}
 use Rattle.rk_model.specs.declared.state.Thread.{Thread}
-use Rattle.rk_model.specs.State.{Plain, ClusterState, no_cluster, cluster_at, put_cluster, thread_at, op_at}
+use Rattle.rk_model.specs.State.{Plain, ClusterState, no_cluster, cluster_at, thread_at, op_at}
 use Rattle.rk_model.specs.Lines.{most_urgent}
 use Rattle.rk_model.specs.Settling.{settle, settled_from, settled_cluster, moved}
 use Rattle.rk_model.specs.Running.{all_cpus, cpu_count, caller, first_of, least_from, least}
-use Rattle.rk_model.specs.Tasks.{sleep, yield, task_wake_after}
+use Rattle.rk_model.specs.Tasks.{sleep, yield}
 use Rattle.rk_model.specs.Timers.{thread_of, due_at}
 use Rattle.rk_model.specs.Ticks.{pass, expire, fire, fire_each, fire_cluster, fire_from, tick}
-use Rattle.rk_model.specs.Steps.{Act, act, act_of, clock_of, clock_entry, action, action_on, directive, entry_of}
+use Rattle.rk_model.specs.Steps.{Act, act, act_of, clock_entry, action, action_on, directive}
 use Rattle.rk_model.specs.Histories.{opening, is_end, ends_from, ends, turn, lowest_on, lowest_from, lowest}
 use Rattle.rk_model.specs.Scenarios.{IsScenario}
 use Rattle.rk_model.proofs.Limits.{limits_of}

@@ -1,18 +1,18 @@
 -- What planning comes to, by what it has to say.
-use Rattle.std.proofs.Common.{◌≡◌, ◌≢◌, ◌⊎◌, inl, inr, ℕ, ◌+◌, ◌<◌, ◌≤◌, List, [], ◌∷◌, ◌++◌, Bool, true, false, cond, Option, Some, None, length, take, arith, refl, sym, ap, ◌∙◌, length-append}
+use Rattle.std.proofs.Common.{◌≡◌, ◌⊎◌, inl, inr, ℕ, List, [], ◌∷◌, Bool, true, false, cond, Option, Some, None, length, arith, refl, sym, ap, ◌∙◌, length-append}
 use Rattle.rk_io.specs.Causes.{Rose}
-use Rattle.rk_io.specs.Bytes.{Consumes, IsUsedUp, Appends, AppendsPrefix}
+use Rattle.rk_io.specs.Bytes.{Consumes, IsUsedUp, Appends}
 use Rattle.rk_io.proofs.Inputs.{used_up_had}
 use Rattle.rk_model.specs.declared.scenario.Scenario.{Scenario}
 use Rattle.rk_model.specs.Scenarios.{ScenarioText, IsScenario}
 use Rattle.rk_model.specs.Reading.{Fault, scenario_fault}
 use Rattle.rk_model.specs.Histories.{ends}
 use Rattle.rk_scenario.proofs.Texts.{one_scenario, faultless_are_texts}
-use Rattle.rk_cli.specs.Texts.{planned, plan_text, refusal_text}
+use Rattle.rk_cli.specs.Texts.{planned}
 use Rattle.rk_cli.specs.Inputs.{HasScenario, HasFault}
-use Rattle.rk_cli.specs.Plans.{HasPlan, HasCutPlan, HasRefusal, HasPart, HasAtMostPart, IsReply}
+use Rattle.rk_cli.specs.Plans.{HasPart}
 use Rattle.rk_cli.specs.Statuses.{IsOneOf, PlansText, RefusesFault, plan_status}
-use Rattle.rk_cli.specs.Answers.{Plans, Refuses, Emits, IsRun}
+use Rattle.rk_cli.specs.Answers.{Plans, Emits, IsRun}
 use Rattle.rk_cli.proofs.Cut.{cut_lowest}
 
 appends_text : (had has : Option (List ℕ)) (a b : List ℕ) → a ≡ b → Appends had has a → Appends had has b

@@ -1,5 +1,5 @@
 -- What the processors do, one after another.
-use Rattle.std.proofs.Common.{◌≡◌, ℕ, zero, suc, ◌+◌, ◌-◌, ◌<◌, ◌++◌, arith, refl}
+use Rattle.std.proofs.Common.{◌≡◌, ℕ, suc, ◌+◌, ◌-◌, ◌<◌, ◌++◌, arith, refl}
 use Rattle.rk_model.specs.State.{Plain}
 use Rattle.rk_model.specs.Running.{running}
 use Rattle.rk_model.specs.Schedules.{view_text, views_from}

@@ -1,5 +1,5 @@
 -- What the parts of planning answer.
-use Rattle.std.specs.Prelude.{ℕ, ◌≡◌, ◌≤◌, ◌⊎◌, List, [], ◌∷◌, Option, Bool, true, false}
+use Rattle.std.specs.Prelude.{ℕ, ◌≡◌, ◌≤◌, List, [], ◌∷◌, Option, Bool, true, false}
 use Rattle.rk_io.specs.Causes.{Rose}
 use Rattle.rk_io.specs.Bytes.{Appends, AppendsPrefix}
 use Rattle.rk_model.specs.declared.scenario.Scenario.{Scenario}
