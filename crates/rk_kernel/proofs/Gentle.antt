@@ -57,9 +57,9 @@ gentle_timers k t h thread timers sound e home bounds here =
       threads = All-with_nth (IsInBounds (length k.clusters) k.present) thread k.threads t bounds sound.threads;
       lines = keeps_timers k.clusters h timers;
       timers = timed_put k (record (put_thread k t thread) { clusters = clusters }) h 0 h k.clusters (record (cluster_at k h) { timers = timers }) (omega arith)
-        (λ d u other. is_timed-with_clusters (put_thread k t thread) clusters d u ∙ is_timed-put_elsewhere k t thread home d u (elsewhere k t d (λ q. other (q ∙ sym e))))
-        (λ u. here u ∙ ap (λ b. cond b 1 0) (sym (is_timed-with_clusters (put_thread k t thread) clusters h u)))
-        sound.clusters;
+          (λ d u other. is_timed-with_clusters (put_thread k t thread) clusters d u ∙ is_timed-put_elsewhere k t thread home d u (elsewhere k t d (λ q. other (q ∙ sym e))))
+          (λ u. here u ∙ ap (λ b. cond b 1 0) (sym (is_timed-with_clusters (put_thread k t thread) clusters h u)))
+          sound.clusters;
     }
 
 home_is : (h : ℕ) (b : Bool) → ((eqb h h) && b) ≡ b

@@ -18,3 +18,5 @@ pub mod Callers
 pub mod Openings
 pub mod Ready
 pub mod Passing
+pub mod Firings
+pub mod Runs

@@ -59,7 +59,7 @@ all_sound k next last clusters c (a ∷ olds) (b ∷ news) gentle sound keeps ti
       all_sound k next last clusters (c + 1) olds news gentle sound.1 keeps.2 timed.1,
     )
 
-length-settled : (move : ℕ → Move) (key : ℕ → ℕ) (threads : List Thread) (c : ℕ) (clusters : List ClusterState) → length (settled_from move key threads c clusters) ≡ length clusters
+pub length-settled : (move : ℕ → Move) (key : ℕ → ℕ) (threads : List Thread) (c : ℕ) (clusters : List ClusterState) → length (settled_from move key threads c clusters) ≡ length clusters
 length-settled move key threads c [] = refl
 length-settled move key threads c (cluster ∷ clusters) = omega (arith, length-settled move key threads (c + 1) clusters)
 
