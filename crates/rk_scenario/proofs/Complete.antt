@@ -126,7 +126,7 @@ timed_taken b o words told bodies inits s (body ∷ more) told_is are few distin
     let end : List (List (List ℕ)) = (codes "end" ∷ []) ∷ [] in
     let bodies-are : bodies ≡ (line ∷ is.inner ++ end) ++ rest = are.2 ∙ ap (λ (x : List (List (List ℕ))). x ++ rest) is.told_is in
     let whole : words ∷ told ≡ line ∷ (is.inner ++ (end ++ (rest ++ inits))) =
-        told_is ∙ ap (λ (x : List (List (List ℕ))). x ++ inits) bodies-are ∙ append_assoc (line ∷ is.inner ++ end) rest inits ∙ append_assoc (line ∷ is.inner) end (rest ++ inits) in
+    told_is ∙ ap (λ (x : List (List (List ℕ))). x ++ inits) bodies-are ∙ append_assoc (line ∷ is.inner ++ end) rest inits ∙ append_assoc (line ∷ is.inner) end (rest ++ inits) in
     let word : words ≡ line = cc whole in
     let all : s.bodies ≡ b.bodies ++ body ∷ more = ap (λ (x : Scenario). x.bodies) after.whole in
     let room : nat_lt (length b.bodies) 32 ≡ true = lt-ltb (length b.bodies) 32 (omega (arith, length-append b.bodies (body ∷ more), ap length all)) in

@@ -296,16 +296,16 @@ inner_sound b o words next e keeps =
     subst (λ (x : Draft). IsSound InBody b o words x) (ok_is (with_op d op.0) next r.1) (record {
       keeps = record { bodies = keeps.bodies; distinct = keeps.distinct; fresh = keeps.fresh; lines = omega (arith, length-append o.lines (op.0 ∷ [])); inits = keeps.inits };
       back = λ told s left.
-        let join = append_assoc o.lines (op.0 ∷ []) left.more in
-        record {
-          inner = words ∷ left.inner;
-          rest = left.rest;
-          told_is = ap (λ (x : List (List (List ℕ))). words ∷ x) left.told_is;
-          more = op.0 ∷ left.more;
-          lines = (op_ok words op.0 op.1, left.lines);
-          few = subst (λ (x : List Op). length x ≤ 1000) join left.few;
-          after = subst (λ (x : List Op). BodiesLeft (record b { bodies = b.bodies ++ (record o { lines = x }) ∷ [] }) left.rest s) join left.after;
-        };
+          let join = append_assoc o.lines (op.0 ∷ []) left.more in
+          record {
+            inner = words ∷ left.inner;
+            rest = left.rest;
+            told_is = ap (λ (x : List (List (List ℕ))). words ∷ x) left.told_is;
+            more = op.0 ∷ left.more;
+            lines = (op_ok words op.0 op.1, left.lines);
+            few = subst (λ (x : List Op). length x ≤ 1000) join left.few;
+            after = subst (λ (x : List Op). BodiesLeft (record b { bodies = b.bodies ++ (record o { lines = x }) ∷ [] }) left.rest s) join left.after;
+          };
     })
 
 body_lines_sound : (b : Scenario) (o : Body) (words : List (List ℕ)) (next : Draft) → in_body (draft_at InBody b o) words ≡ Ok next → Keeps InBody b o → IsSound InBody b o words next

@@ -107,11 +107,13 @@ lines_read [] d n s e = (tt, at_end_reads d.phase d.scenario s n e)
 lines_read (line ∷ lines) d n s e =
     let g = goes_on_reads (after_line d line) n (λ next. verdict_from next (n + 1) lines) s e in
     let l = line_is d line g.0 g.1 in
-    let rest = lines_read lines g.0 (n + 1) s g.2 in
-    ((l.plain, rest.0), elim l.step [
-      | inl t ↦ ap (λ (told : List (List (List ℕ))). read_from d told) (skipped_told line lines t.0) ∙ ap (λ (x : Draft). read_from x (told_of lines)) t.1 ∙ rest.1
-      | inr t ↦ ap (λ (told : List (List (List ℕ))). read_from d told) (kept_told line lines t.0) ∙ ap (λ (r : Result Draft ScenarioWhy). read_on r (λ next. read_from next (told_of lines))) t.1 ∙ rest.1
-    ])
+    let rest = lines_read lines g.0 (n + 1) s g.2 in (
+      (l.plain, rest.0),
+      elim l.step [
+        | inl t ↦ ap (λ (told : List (List (List ℕ))). read_from d told) (skipped_told line lines t.0) ∙ ap (λ (x : Draft). read_from x (told_of lines)) t.1 ∙ rest.1
+        | inr t ↦ ap (λ (told : List (List (List ℕ))). read_from d told) (kept_told line lines t.0) ∙ ap (λ (r : Result Draft ScenarioWhy). read_on r (λ next. read_from next (told_of lines))) t.1 ∙ rest.1
+      ],
+    )
 
 skipped_line : (d : Draft) (line : List ℕ) → is_plain line ≡ true → is_skipped (words_of line) ≡ true → after_line d line ≡ Ok d
 unfolding after_line after_words
@@ -246,9 +248,10 @@ none_reads (Reads s) e = (s, refl)
 none_reads (Faults fault) e = absurd cc
 
 pub faultless_are_texts : FaultlessAreTexts
-faultless_are_texts bytes =
-    (λ e. let r = none_reads (verdict bytes) e in (r.0, reads_texts bytes r.0 r.1),
-      λ text. ap fault_in (reads_each_text bytes text.0 text.1))
+faultless_are_texts bytes = (
+  λ e. let r = none_reads (verdict bytes) e in (r.0, reads_texts bytes r.0 r.1),
+  λ text. ap fault_in (reads_each_text bytes text.0 text.1),
+)
 
 -- ---- what an answer says
 

@@ -5,23 +5,19 @@ ghost use Rattle.rk_scenario.specs.Laws.{ReadsTexts, ReadsEachText, OneScenario,
 /// What the machine of the definitions reads from bytes is a scenario of which they are a text.
 pub fn machine_reads_texts()
     ensures { ReadsTexts }
-{
-}
+{}
 
 /// The machine of the definitions reads each text of a scenario, as that scenario.
 pub fn machine_reads_each_text()
     ensures { ReadsEachText }
-{
-}
+{}
 
 /// A text is that of one scenario.
 pub fn text_has_one_scenario()
     ensures { OneScenario }
-{
-}
+{}
 
 /// Bytes have no fault exactly where they are a text of some scenario.
 pub fn faultless_bytes_are_texts()
     ensures { FaultlessAreTexts }
-{
-}
+{}
