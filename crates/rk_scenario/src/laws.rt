@@ -1,6 +1,6 @@
 //! Laws of the texts of scenarios. The contract of each function is a law; calling it does nothing.
 
-ghost use Rattle.rk_scenario.specs.Laws.{ReadsTexts, ReadsEachText, OneScenario, FaultlessAreTexts};
+ghost use Rattle.rk_scenario.specs.Laws.{ReadsTexts, ReadsEachText, OneScenario, FaultlessAreTexts, FaultsAtFirstStop};
 
 /// What the machine of the definitions reads from bytes is a scenario of which they are a text.
 pub fn machine_reads_texts()
@@ -21,3 +21,10 @@ pub fn text_has_one_scenario()
 pub fn faultless_bytes_are_texts()
     ensures { FaultlessAreTexts }
 {}
+
+/// A fault is that of the whole text where it is too large, and else it is at the first line at
+/// which no text goes on.
+pub fn fault_is_at_first_stop()
+    ensures { FaultsAtFirstStop }
+{
+}
