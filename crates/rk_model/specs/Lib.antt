@@ -16,3 +16,4 @@ pub mod Words
 pub mod Scenarios
 pub mod Limits
 pub mod Schedules
+pub mod Reading

@@ -1,0 +1,180 @@
+-- The words of a line are those of the grammar exactly where the machine takes them.
+use Rattle.std.proofs.Common.{◌≡◌, ℕ, ◌≤◌, ◌<◌, Bool, true, false, cond, ◌⊎◌, inl, inr, List, [], ◌∷◌, length, Option, Some, None, Result, Ok, Err, refl, sym, ap, subst, ◌∙◌, arith, codes, ◌&&◌}
+use Rattle.std.specs.Prelude.{nat_le, nat_lt}
+use Rattle.std.specs.Str.{bytes_eq}
+use Rattle.std.proofs.lemmas.Bool.{and_parts, leb-true, le-leb, ltb-true, lt-ltb}
+use Rattle.std.proofs.lemmas.Slice.Eq.{bytes_eq-Decides}
+use Rattle.rk_model.specs.declared.scenario.Op.{Op}
+use Rattle.rk_model.specs.declared.scenario.Op.TheVariants.{Work, TaskWakeAfter}
+use Rattle.rk_model.specs.declared.scenario.Body.{Body}
+use Rattle.rk_model.specs.declared.scenario.Init.{Init}
+use Rattle.rk_model.specs.declared.scenario.Scenario.{Scenario}
+use Rattle.rk_model.specs.declared.scenario.ScenarioWhy.{ScenarioWhy}
+use Rattle.rk_model.specs.declared.scenario.ScenarioWhy.TheVariants.{NotYetBuilt}
+use Rattle.rk_model.specs.Words.{number_of, name_of}
+use Rattle.rk_model.specs.Scenarios.{IsNumber, IsOp, IsInit, body_of}
+use Rattle.rk_model.specs.Reading.{◌>>=◌, within, below, known, number_operand, cluster_operand, name_operand, body_operand, work_line, wake_after_line, op_line, init_operands}
+
+-- ---- steps that are taken
+
+pub bind_ok : {A B : Type 0} (r : Result A ScenarioWhy) (f : A → Result B ScenarioWhy) (y : B) → (r >>= f) ≡ Ok y → (x : A) × (r ≡ Ok x) × (f x ≡ Ok y)
+bind_ok (Ok x) f y e = (x, refl, e)
+bind_ok (Err why) f y e = absurd cc
+
+pub then_ok : {A : Type 0} (b : Bool) (r : Result A ScenarioWhy) (why : ScenarioWhy) (y : A) → cond b r (Err why) ≡ Ok y → (b ≡ true) × (r ≡ Ok y)
+then_ok true r why y e = (refl, e)
+then_ok false r why y e = absurd cc
+
+pub else_ok : {A : Type 0} (b : Bool) (why : ScenarioWhy) (r : Result A ScenarioWhy) (y : A) → cond b (Err why) r ≡ Ok y → (b ≡ false) × (r ≡ Ok y)
+else_ok true why r y e = absurd cc
+else_ok false why r y e = (refl, e)
+
+pub either_ok : {A : Type 0} (b : Bool) (r t : Result A ScenarioWhy) (y : A) → cond b r t ≡ Ok y → ((b ≡ true) × (r ≡ Ok y)) ⊎ ((b ≡ false) × (t ≡ Ok y))
+either_ok true r t y e = inl (refl, e)
+either_ok false r t y e = inr (refl, e)
+
+abbrev done : {A : Type 0} → A → Result A ScenarioWhy
+done x = Ok x
+
+pub ok_is : {A : Type 0} (x y : A) → done x ≡ done y → x ≡ y
+ok_is x y e = cc
+
+pub text_is : (a b : List ℕ) → bytes_eq a b ≡ true → a ≡ b
+text_is a b e = (bytes_eq-Decides a b).0 e
+
+pub text_same : (a : List ℕ) → bytes_eq a a ≡ true
+text_same a = (bytes_eq-Decides a a).1 refl
+
+-- ---- operands
+
+within_ok : (least most : ℕ) (o : Option ℕ) (n : ℕ) → within least most o ≡ Ok n → (o ≡ Some n) × (least ≤ n) × (n ≤ most)
+within_ok least most None n e = absurd cc
+within_ok least most (Some m) n e =
+    let t = then_ok (nat_le least m && nat_le m most) (done m) NotYetBuilt n e in
+    let both = and_parts (nat_le least m) (nat_le m most) t.0 in
+    let same : m ≡ n = ok_is m n t.1 in
+    let low : least ≤ m = leb-true least m both.0 in
+    let high : m ≤ most = leb-true m most both.1 in
+    (ap (λ (k : ℕ). Some k) same, omega arith, omega arith)
+
+pub number_ok : (least most : ℕ) (word : List ℕ) (n : ℕ) → number_operand least most word ≡ Ok n → IsNumber word n least most
+unfolding number_operand
+number_ok least most word n e = let w = within_ok least most (number_of word) n e in record { value = w.0; low = w.1; high = w.2 }
+
+pub number_is : (least most : ℕ) (word : List ℕ) (n : ℕ) → IsNumber word n least most → number_operand least most word ≡ Ok n
+unfolding number_operand
+number_is least most word n h =
+    let low = le-leb least n h.low in
+    let high = le-leb n most h.high in
+    rw (h.value, low, high) refl
+
+below_ok : (count : ℕ) (o : Option ℕ) (n : ℕ) → below count o ≡ Ok n → (o ≡ Some n) × (n < count)
+below_ok count None n e = absurd cc
+below_ok count (Some m) n e =
+    let t = then_ok (nat_lt m count) (done m) NotYetBuilt n e in
+    let same : m ≡ n = ok_is m n t.1 in
+    let lt : m < count = ltb-true m count t.0 in
+    (ap (λ (k : ℕ). Some k) same, omega arith)
+
+cluster_ok : (count : ℕ) (word : List ℕ) (n : ℕ) → cluster_operand count word ≡ Ok n → (number_of word ≡ Some n) × (n < count)
+unfolding cluster_operand
+cluster_ok count word n e = below_ok count (number_of word) n e
+
+cluster_is : (count : ℕ) (word : List ℕ) (n : ℕ) → number_of word ≡ Some n → n < count → cluster_operand count word ≡ Ok n
+unfolding cluster_operand
+cluster_is count word n e lt = let test = lt-ltb n count lt in rw (e, test) refl
+
+known_ok : (o : Option ℕ) (n : ℕ) → known o ≡ Ok n → o ≡ Some n
+known_ok None n e = absurd cc
+known_ok (Some m) n e = ap (λ (k : ℕ). Some k) (ok_is m n e)
+
+name_ok : (word : List ℕ) (n : ℕ) → name_operand word ≡ Ok n → name_of word ≡ Some n
+unfolding name_operand
+name_ok word n e = known_ok (name_of word) n e
+
+name_is : (word : List ℕ) (n : ℕ) → name_of word ≡ Some n → name_operand word ≡ Ok n
+unfolding name_operand
+name_is word n e = rw e refl
+
+body_ok : (bodies : List Body) (word : List ℕ) (n : ℕ) → body_operand bodies word ≡ Ok n → body_of bodies word ≡ Some n
+unfolding body_operand
+body_ok bodies word n e = known_ok (body_of bodies word) n e
+
+body_is : (bodies : List Body) (word : List ℕ) (n : ℕ) → body_of bodies word ≡ Some n → body_operand bodies word ≡ Ok n
+unfolding body_operand
+body_is bodies word n e = rw e refl
+
+-- ---- lines of a body
+
+work_ok : (operands : List (List ℕ)) (op : Op) → work_line operands ≡ Ok op → IsOp (codes "work" ∷ operands) op
+unfolding work_line
+work_ok [] op e = absurd cc
+work_ok (ticks ∷ []) op e =
+    let b = bind_ok (number_operand 1 1000000 ticks) (λ n. Ok (Work n)) op e in
+    subst (λ (o : Op). IsOp (codes "work" ∷ ticks ∷ []) o) (ok_is (Work b.0) op b.2) (ticks, refl, number_ok 1 1000000 ticks b.0 b.1)
+work_ok (ticks ∷ more ∷ words) op e = absurd cc
+
+wake_after_ok : (operands : List (List ℕ)) (op : Op) → wake_after_line operands ≡ Ok op → IsOp (codes "task.wake_after" ∷ operands) op
+unfolding wake_after_line
+wake_after_ok [] op e = absurd cc
+wake_after_ok (ticks ∷ []) op e =
+    let b = bind_ok (number_operand 0 4294967295 ticks) (λ n. Ok (TaskWakeAfter n)) op e in
+    subst (λ (o : Op). IsOp (codes "task.wake_after" ∷ ticks ∷ []) o) (ok_is (TaskWakeAfter b.0) op b.2) (ticks, refl, number_ok 0 4294967295 ticks b.0 b.1)
+wake_after_ok (ticks ∷ more ∷ words) op e = absurd cc
+
+-- what the machine takes as a line of a body is one
+pub op_ok : (words : List (List ℕ)) (op : Op) → op_line words ≡ Ok op → IsOp words op
+unfolding op_line
+op_ok [] op e = absurd cc
+op_ok (first ∷ operands) op e =
+    elim (either_ok (bytes_eq first (codes "work")) (work_line operands) (cond (bytes_eq first (codes "task.wake_after")) (wake_after_line operands) (Err NotYetBuilt)) op e) [
+      | inl h ↦ rw (text_is first (codes "work") h.0) (work_ok operands op h.1)
+      | inr h ↦
+          let t = then_ok (bytes_eq first (codes "task.wake_after")) (wake_after_line operands) NotYetBuilt op h.1 in
+          rw (text_is first (codes "task.wake_after") t.0) (wake_after_ok operands op t.1)
+    ]
+
+-- a line of a body is taken by the machine
+pub op_is : (words : List (List ℕ)) (op : Op) → IsOp words op → op_line words ≡ Ok op
+unfolding op_line work_line wake_after_line
+op_is words (Work n) h = rw (h.1, number_is 1 1000000 h.0 n h.2) refl
+op_is words (TaskWakeAfter n) h = rw (h.1, number_is 0 4294967295 h.0 n h.2) refl
+
+-- ---- init lines
+
+-- what the machine takes behind `init` are the words of an init line
+pub init_ok : (s : Scenario) (operands : List (List ℕ)) (init : Init) → init_operands s operands ≡ Ok init → IsInit s (codes "init" ∷ operands) init
+unfolding init_operands
+init_ok s [] init e = absurd cc
+init_ok s (name ∷ []) init e = absurd cc
+init_ok s (name ∷ cluster ∷ []) init e = absurd cc
+init_ok s (name ∷ cluster ∷ priority ∷ []) init e = absurd cc
+init_ok s (name ∷ cluster ∷ priority ∷ body ∷ []) init e =
+    let made : ℕ → ℕ → ℕ → ℕ → Init = λ bits c p b. record { name = record { bits = bits }; cluster = c; prio = p; body = b } in
+    let n = bind_ok (name_operand name) (λ bits. cluster_operand (length s.clusters) cluster >>= (λ c. number_operand 1 255 priority >>= (λ p. body_operand s.bodies body >>= (λ b. Ok (made bits c p b))))) init e in
+    let c = bind_ok (cluster_operand (length s.clusters) cluster) (λ c. number_operand 1 255 priority >>= (λ p. body_operand s.bodies body >>= (λ b. Ok (made n.0 c p b)))) init n.2 in
+    let p = bind_ok (number_operand 1 255 priority) (λ p. body_operand s.bodies body >>= (λ b. Ok (made n.0 c.0 p b))) init c.2 in
+    let b = bind_ok (body_operand s.bodies body) (λ b. Ok (made n.0 c.0 p.0 b)) init p.2 in
+    let home = cluster_ok (length s.clusters) cluster c.0 c.1 in
+    subst (λ (i : Init). IsInit s (codes "init" ∷ name ∷ cluster ∷ priority ∷ body ∷ []) i) {x = made n.0 c.0 p.0 b.0} (ok_is (made n.0 c.0 p.0 b.0) init b.2) (record {
+      name = name;
+      cluster = cluster;
+      priority = priority;
+      body = body;
+      words_are = refl;
+      name_is = name_ok name n.0 n.1;
+      cluster_is = home.0;
+      cluster_below = home.1;
+      priority_is = number_ok 1 255 priority p.0 p.1;
+      body_is = body_ok s.bodies body b.0 b.1;
+    })
+init_ok s (name ∷ cluster ∷ priority ∷ body ∷ more ∷ words) init e = absurd cc
+
+-- the words behind the first of an init line are taken by the machine
+pub init_is : (s : Scenario) (words : List (List ℕ)) (init : Init) → IsInit s words init → (operands : List (List ℕ)) × (words ≡ codes "init" ∷ operands) × (init_operands s operands ≡ Ok init)
+unfolding init_operands
+init_is s words init h = (
+  h.name ∷ h.cluster ∷ h.priority ∷ h.body ∷ [],
+  h.words_are,
+  rw (name_is h.name init.name.bits h.name_is, cluster_is (length s.clusters) h.cluster init.cluster h.cluster_is h.cluster_below, number_is 1 255 h.priority init.prio h.priority_is, body_is s.bodies h.body init.body h.body_is) refl,
+)

@@ -1,0 +1,46 @@
+-- What has been read so far, as the code has it, and what taking a line does to it.
+use Rattle.std.specs.Prelude.{ℕ, ◌≡◌, ◌≤◌, List, Result, Ok, Err, length}
+use Rattle.rk_model.specs.declared.scenario.ScenarioWhy.{ScenarioWhy}
+use Rattle.rk_model.specs.Reading as reading
+use Rattle.rk_scenario.specs.declared.errors.LineError.{LineError}
+use Rattle.rk_scenario.specs.declared.errors.LineError.TheVariants as errors
+use Rattle.rk_scenario.specs.declared.draft.Draft.{Draft}
+use Rattle.rk_scenario.specs.declared.draft.Phase.{Phase}
+use Rattle.rk_scenario.specs.declared.draft.Phase.TheVariants.{Start, Headed, Clustered, Timed, InBody, InInits}
+
+-- the same phase among the definitions
+abbrev pub phase_of : Phase → reading.Phase
+phase_of Start = reading.Start
+phase_of Headed = reading.Headed
+phase_of Clustered = reading.Clustered
+phase_of Timed = reading.Timed
+phase_of InBody = reading.InBody
+phase_of InInits = reading.InInits
+
+-- the same draft among the definitions
+abbrev pub draft_of : Draft → reading.Draft
+draft_of d = record { phase = phase_of d.phase; scenario = d.scenario; body = d.body }
+
+-- A line was taken, and gave the new draft; or it wasn't, for what is wrong with it or for want of memory.
+abbrev pub Takes : Result (Unit {0}) LineError → Result reading.Draft ScenarioWhy → Draft → Type 0
+Takes (Ok x) step new = step ≡ Ok (draft_of new)
+Takes (Err (errors.Fault why)) step new = step ≡ Err why
+Takes (Err errors.Memory) step new = Unit {0}
+
+-- There are at most four clusters, and at most so many whole bodies.
+pub record HasAtMost (most : ℕ) (d : Draft) : Type 0 where
+  pub clusters : length d.scenario.clusters ≤ 4
+  pub bodies : length d.scenario.bodies ≤ most
+
+-- how many whole bodies there are at most at a phase: an open one has its place
+abbrev pub most_bodies : Phase → ℕ
+most_bodies Start = 32
+most_bodies Headed = 32
+most_bodies Clustered = 32
+most_bodies Timed = 32
+most_bodies InBody = 31
+most_bodies InInits = 32
+
+-- The numbers of clusters and bodies are small.
+abbrev pub IsSmall : Draft → Type 0
+IsSmall d = HasAtMost (most_bodies d.phase) d

@@ -1,0 +1,16 @@
+//! Reads scenarios from their text.
+#![tactic(auto)]
+
+mod draft;
+mod errors;
+pub mod laws;
+mod lines;
+mod operands;
+mod ops;
+mod read;
+#[cfg(test)]
+mod tests;
+mod words;
+
+pub use errors::ScenarioError;
+pub use read::read_scenario;

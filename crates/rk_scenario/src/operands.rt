@@ -1,0 +1,170 @@
+ghost use Rattle.std.specs.Prelude.{◌≡◌, ◌<◌, ◌≤◌, ◌+◌, ◌*◌, ◌^◌, length, min, IfSome, IfOk};
+ghost use Rattle.std.specs.Option.{option_map};
+ghost use Rattle.std.specs.List.{list_all};
+ghost use Rattle.rk_model.specs.Words.{digit_value, digit_below, value_from, decimal_of, number_of, name_of, is_name_byte, is_lower, is_body_byte, is_body_name};
+ghost use Rattle.rk_model.specs.Scenarios.{body_of, body_from, is_named};
+ghost use Rattle.rk_model.specs.Reading.{number_operand, cluster_operand, name_operand, body_operand};
+
+use rk_model::{Body, Name, ScenarioWhy};
+
+/// Greater than every number that a line may have. Numbers of any length are read, and greater
+/// ones are given as this.
+const BEYOND: u64 = 4_294_967_296;
+
+/// The number that a word spells, or `BEYOND` where it is greater.
+#[tactic(auto, unfolding(rk_model::specs::Words::number_of))]
+fn number(word: &[u8]) -> Option<u64>
+    ensures { result ≡ option_map (min 4294967296) (number_of word.now) }
+{
+    match word {
+        [b'0', b'x', digits @ ..] if digits.len() == 8 => value(16, digits),
+        _ => decimal(word),
+    }
+}
+
+/// The number that a word spells in decimal digits, or `BEYOND` where it is greater.
+#[tactic(auto, unfolding(rk_model::specs::Words::decimal_of))]
+fn decimal(word: &[u8]) -> Option<u64>
+    ensures { result ≡ option_map (min 4294967296) (decimal_of word.now) }
+{
+    match word {
+        [] => None,
+        [b'0', _, ..] => None,
+        _ => value(10, word),
+    }
+}
+
+/// The value of digits, or `BEYOND` where it is greater.
+fn value(base: u64, digits: &[u8]) -> Option<u64>
+    requires low { 1 ≤ base }
+    requires high { base ≤ 16 }
+    ensures { result ≡ option_map (min 4294967296) (value_from base 0 digits.now) }
+{
+    let mut value: u64 = 0;
+    for byte in digits {
+        match digit(base, *byte) {
+            None => return None,
+            Some(digit) => value = (base * value + digit).min(BEYOND),
+        }
+    }
+    Some(value)
+}
+
+/// The value of a digit of a base.
+fn digit(base: u64, byte: u8) -> Option<u64>
+    ensures value { result ≡ digit_below base (digit_value byte) }
+    ensures small { IfSome result (λ d. d < base) }
+{
+    let digit = match byte {
+        b'0'..=b'9' => u64::from(byte - b'0'),
+        b'a'..=b'f' => u64::from(byte - 87),
+        _ => return None,
+    };
+    if digit < base { Some(digit) } else { None }
+}
+
+/// The number that a word spells, where it is from `least` to `most`.
+#[tactic(auto, unfolding(rk_model::specs::Reading::number_operand))]
+pub(crate) fn number_operand(least: u32, most: u32, word: &[u8]) -> Result<u32, ScenarioWhy>
+    ensures value { result ≡ number_operand least most word.now }
+    ensures low { IfOk result (λ n. least ≤ n) }
+    ensures high { IfOk result (λ n. n ≤ most) }
+{
+    match number(word) {
+        Some(number) if u64::from(least) <= number && number <= u64::from(most) => {
+            Ok(number as u32)
+        }
+        _ => Err(ScenarioWhy::NotYetBuilt),
+    }
+}
+
+/// The number of a cluster, of which there are `count`.
+#[tactic(auto, unfolding(rk_model::specs::Reading::cluster_operand))]
+pub(crate) fn cluster_operand(count: usize, word: &[u8]) -> Result<u8, ScenarioWhy>
+    requires { count ≤ 256 }
+    ensures { result ≡ cluster_operand count word.now }
+{
+    match number(word) {
+        Some(number) if number < count as u64 => Ok(number as u8),
+        _ => Err(ScenarioWhy::NotYetBuilt),
+    }
+}
+
+/// Whether a byte may stand in a name of an object.
+fn is_name_byte(byte: u8) -> bool
+    ensures { result ≡ is_name_byte byte }
+{
+    matches!(byte, b'a'..=b'z' | b'A'..=b'Z' | b'0'..=b'9' | b'_')
+}
+
+/// The name of an object that a word spells.
+#[tactic(auto, unfolding(rk_model::specs::Words::name_of, rk_model::specs::Reading::name_operand))]
+pub(crate) fn name_operand(word: &[u8]) -> Result<u32, ScenarioWhy>
+    ensures { result ≡ name_operand word.now }
+{
+    match word {
+        [a, b, c, d]
+            if is_name_byte(*a) && is_name_byte(*b) && is_name_byte(*c) && is_name_byte(*d) => {
+            let high = u32::from(*a) * 256 + u32::from(*b);
+            Ok((high * 256 + u32::from(*c)) * 256 + u32::from(*d))
+        }
+        _ => Err(ScenarioWhy::NotYetBuilt),
+    }
+}
+
+/// Whether a byte is a small letter.
+fn is_lower(byte: u8) -> bool
+    ensures { result ≡ is_lower byte }
+{
+    byte.is_ascii_lowercase()
+}
+
+/// Whether a byte may stand in a body's name.
+fn is_body_byte(byte: u8) -> bool
+    ensures { result ≡ is_body_byte byte }
+{
+    matches!(byte, b'a'..=b'z' | b'0'..=b'9' | b'_')
+}
+
+/// Whether all bytes may stand in a body's name.
+fn are_body_bytes(bytes: &[u8]) -> bool
+    ensures { result ≡ list_all is_body_byte bytes.now }
+{
+    bytes.iter().all(|b| is_body_byte(*b))
+}
+
+/// Whether a word may be a body's name.
+#[tactic(auto, unfolding(rk_model::specs::Words::is_body_name))]
+pub(crate) fn is_body_name(word: &[u8]) -> bool
+    ensures { result ≡ is_body_name word.now }
+{
+    match word {
+        [] => false,
+        [first, more @ ..] => { is_lower(*first) && are_body_bytes(more) && more.len() <= 15 }
+    }
+}
+
+/// The number of the body of a name.
+pub(crate) fn body_number(bodies: &[Body], name: &[u8]) -> Option<usize>
+    ensures value { result ≡ body_of bodies.now name.now }
+    ensures within { IfSome result (λ b. b < length bodies.now) }
+{
+    for (at, body) in bodies.iter().enumerate() {
+        if body.name.as_slice() == name {
+            return Some(at);
+        }
+    }
+    None
+}
+
+/// The number of the body whose name a word is.
+#[tactic(auto, unfolding(rk_model::specs::Reading::body_operand))]
+pub(crate) fn body_operand(bodies: &[Body], word: &[u8]) -> Result<u8, ScenarioWhy>
+    requires { length bodies.now ≤ 256 }
+    ensures { result ≡ body_operand bodies.now word.now }
+{
+    match body_number(bodies, word) {
+        Some(body) => Ok(body as u8),
+        None => Err(ScenarioWhy::NotYetBuilt),
+    }
+}
