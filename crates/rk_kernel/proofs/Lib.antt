@@ -1,5 +1,4 @@
 pub mod Noting
-pub mod Ranks
 pub mod Ranges
 pub mod Clusters
 pub mod Settling
@@ -9,3 +8,4 @@ pub mod Assigning
 pub mod Soundness
 pub mod Callers
 pub mod Openings
+pub mod Sorting

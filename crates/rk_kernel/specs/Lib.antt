@@ -1,3 +1,4 @@
 pub mod Pieces
 pub mod Room
 pub mod Sound
+pub mod Urgency

@@ -178,6 +178,7 @@ fn settle_cluster(cluster: &mut ClusterPart, scratch: &mut Scratch, threads: &[T
     );
     find_runners(
         &mut scratch.running,
+        &mut scratch.fresh,
         scratch.now.as_slice(),
         cluster.line.as_slice(),
         cluster.cpus.len(),
