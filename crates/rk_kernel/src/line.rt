@@ -1,6 +1,4 @@
-ghost use Rattle.std.specs.Prelude.{◌≡◌, ◌<◌, ◌≤◌, ◌+◌, ◌-◌, ◌++◌, ◌∷◌, ◌==◌, [], ℕ, length, take, drop, map, filter, not, count_by, nat_le, nat_lt};
-ghost use Rattle.std.specs.List.{slice_index_or};
-ghost use Rattle.std.specs.Option.{option_to_list};
+ghost use Rattle.std.specs.Prelude.{◌≡◌, ◌≤◌, ◌++◌, length, take, map, filter, not};
 ghost use Rattle.rk_model.specs.Lists.{has};
 ghost use Rattle.rk_model.specs.Lines.{most_urgent, has_cpu, kept, filled};
 ghost use Rattle.rk_model.specs.Settling.{key_of};
