@@ -1,7 +1,6 @@
 pub mod Scans
 pub mod Pieces
 pub mod Noting
-pub mod Ranks
 pub mod Ranges
 pub mod Clusters
 pub mod Settling
@@ -20,3 +19,4 @@ pub mod Ready
 pub mod Passing
 pub mod Firings
 pub mod Runs
+pub mod Sorting
