@@ -1,5 +1,5 @@
 -- What the machine takes tells a scenario: each of its steps leads back from what the lines after it complete.
-use Rattle.std.proofs.Common.{◌≡◌, ℕ, ◌+◌, ◌≤◌, ◌<◌, Bool, true, false, cond, not, inl, inr, List, [], ◌∷◌, ◌++◌, length, Option, Some, None, Result, Ok, Err, codes, refl, sym, ap, subst, ◌∙◌, append_assoc, arith, length-append}
+use Rattle.std.proofs.Common.{◌≡◌, ℕ, ◌+◌, ◌≤◌, ◌<◌, true, false, cond, not, inl, inr, List, [], ◌∷◌, ◌++◌, length, Option, Some, None, Result, Ok, Err, codes, refl, sym, ap, subst, ◌∙◌, append_assoc, arith, length-append}
 use Rattle.std.specs.Prelude.{nat_lt, is_some}
 use Rattle.std.specs.Str.{bytes_eq}
 use Rattle.std.proofs.lemmas.Bool.{and_parts, ltb-true, not-false}
@@ -11,11 +11,11 @@ use Rattle.rk_model.specs.declared.scenario.Scenario.{Scenario}
 use Rattle.rk_model.specs.declared.scenario.ScenarioWhy.{ScenarioWhy}
 use Rattle.rk_model.specs.declared.scenario.ScenarioWhy.TheVariants.{Header, NotYetBuilt}
 use Rattle.rk_model.specs.Words.{is_body_name}
-use Rattle.rk_model.specs.Scenarios.{AreOps, AreBodies, AreDistinct, AreInits, IsBody, IsCluster, IsTicks, IsInit, body_of}
-use Rattle.rk_model.specs.Reading.{Phase, Start, Headed, Clustered, Timed, InBody, InInits, Draft, no_body, number_operand, op_line, init_operands, is_header, is_end, with_cluster, with_body, with_op, with_init, cluster_line, ticks_line, body_line, inner_line, init_line, at_start, at_headed, at_clustered, at_timed, at_inits, in_body, after_told}
+use Rattle.rk_model.specs.Scenarios.{AreDistinct, IsBody, IsInit, body_of}
+use Rattle.rk_model.specs.Reading.{Phase, Start, Headed, Clustered, Timed, InBody, InInits, Draft, number_operand, op_line, init_operands, is_header, is_end, with_cluster, with_body, with_op, with_init, cluster_line, ticks_line, body_line, inner_line, init_line, at_start, at_headed, at_clustered, at_timed, at_inits, in_body, after_told}
 use Rattle.rk_scenario.proofs.Spelled.{bind_ok, then_ok, else_ok, either_ok, ok_is, text_is, number_ok, op_ok, init_ok}
 use Rattle.rk_scenario.proofs.Named.{distinct_more}
-use Rattle.rk_scenario.proofs.Left.{InitsLeft, BodiesLeft, BodyLeft, TicksLeft, ClusterLeft, HeaderLeft, Completes, draft_at, ends, IsInit-kept}
+use Rattle.rk_scenario.proofs.Left.{InitsLeft, BodiesLeft, BodyLeft, Completes, draft_at, ends, IsInit-kept}
 
 -- the place of the open body among the bodies
 abbrev pub opened : Phase → ℕ

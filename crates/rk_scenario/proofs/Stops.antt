@@ -1,5 +1,5 @@
 -- A fault stands at the first line at which no text goes on.
-use Rattle.std.proofs.Common.{◌≡◌, ℕ, zero, suc, ◌+◌, ◌-◌, ◌≤◌, ◌<◌, Bool, true, false, cond, ◌⊎◌, inl, inr, List, [], ◌∷◌, ◌++◌, length, take, Option, Some, None, Result, Ok, Err, codes, refl, sym, ap, subst, ◌∙◌, arith}
+use Rattle.std.proofs.Common.{◌≡◌, ℕ, suc, ◌+◌, ◌-◌, ◌≤◌, ◌<◌, Bool, true, false, cond, ◌⊎◌, inl, inr, List, [], ◌∷◌, ◌++◌, length, take, Some, Result, Ok, Err, codes, refl, sym, ap, subst, ◌∙◌, arith}
 use Rattle.std.specs.Prelude.{nat_lt}
 use Rattle.std.proofs.lemmas.Bool.{ltb-true, ltb-false}
 use Rattle.rk_model.specs.declared.scenario.Body.{Body}
@@ -7,11 +7,11 @@ use Rattle.rk_model.specs.declared.scenario.Scenario.{Scenario}
 use Rattle.rk_model.specs.declared.scenario.ScenarioWhy.{ScenarioWhy}
 use Rattle.rk_model.specs.declared.scenario.ScenarioWhy.TheVariants.{TooLarge}
 use Rattle.rk_model.specs.Words.{lines_of, words_of, number_of, decimal_of}
-use Rattle.rk_model.specs.Reading.{Phase, Start, Headed, Clustered, Timed, InBody, InInits, Draft, start, number_operand, is_header, is_end, cluster_line, ticks_line, after_told, after_words, after_line, Fault, Verdict, Reads, Faults, at_end, goes_on, verdict_from, verdict, fault_in, scenario_fault}
-use Rattle.rk_scenario.specs.Laws.{AreLinesOf, Begin, IsFirstStop, FaultsAtFirstStop}
+use Rattle.rk_model.specs.Reading.{Phase, Start, Headed, Clustered, Timed, InBody, InInits, Draft, start, number_operand, is_header, is_end, cluster_line, ticks_line, after_words, after_line, Fault, Verdict, Reads, Faults, at_end, goes_on, verdict_from, fault_in}
+use Rattle.rk_scenario.specs.Laws.{AreLinesOf, IsFirstStop, FaultsAtFirstStop}
 use Rattle.rk_scenario.proofs.Left.{draft_at}
 use Rattle.rk_scenario.proofs.Sound.{Keeps, step_sound}
-use Rattle.rk_scenario.proofs.Texts.{start_keeps, IsLine, line_is, lines_tell, lines_told}
+use Rattle.rk_scenario.proofs.Texts.{start_keeps, line_is, lines_tell, lines_told}
 
 -- ---- each draft can be completed
 
@@ -105,7 +105,7 @@ stop_later d next line lines n fault taken h = record {
   line = omega (arith, h.line);
   before = (h.before.0, h.before.1, ap (λ (r : Result Draft ScenarioWhy). goes_on r n (λ x. verdict_from x (n + 1) (take h.at lines ++ h.before.0))) taken ∙ h.before.2);
   stops = λ lt more s e. h.stops (let less : suc h.at < suc (length lines) = lt in omega arith) more s
-    (taken_reads (after_line d line) next n (λ x. verdict_from x (n + 1) (take (suc h.at) lines ++ more)) (Reads s) taken e);
+      (taken_reads (after_line d line) next n (λ x. verdict_from x (n + 1) (take (suc h.at) lines ++ more)) (Reads s) taken e);
   ends = λ le. let less : suc (length lines) ≤ suc h.at = le in ap suc (h.ends (omega arith));
 }
 
@@ -135,9 +135,11 @@ first_stop lines fault e =
     record {
       before = (h.before.0, h.before.1, rw back (lines_tell (take h.at lines ++ h.before.0) h.before.1 h.before.2));
       stops = λ le begin. h.stops (omega (arith, h.line)) begin.0 begin.1
-        (lines_told (take (suc h.at) lines ++ begin.0) begin.1 (subst (λ (k : ℕ). AreLinesOf (take k lines ++ begin.0) begin.1) on begin.2));
-      ends = λ lt. (let end : h.at ≡ length lines = h.ends (omega (arith, h.line)) in omega (arith, h.line),
-        λ s are. let read : verdict_from start 1 lines ≡ Reads s = lines_told lines s are in cc);
+          (lines_told (take (suc h.at) lines ++ begin.0) begin.1 (subst (λ (k : ℕ). AreLinesOf (take k lines ++ begin.0) begin.1) on begin.2));
+      ends = λ lt. (
+        let end : h.at ≡ length lines = h.ends (omega (arith, h.line)) in omega (arith, h.line),
+        λ s are. let read : verdict_from start 1 lines ≡ Reads s = lines_told lines s are in cc,
+      );
     }
 
 fault_is : (v : Verdict) (fault : Fault) → fault_in v ≡ Some fault → v ≡ Faults fault

@@ -1,6 +1,6 @@
 -- The verdict on a text is the scenario that it tells, and bytes that tell none have a fault.
-use Rattle.std.proofs.Common.{◌≡◌, ℕ, zero, suc, ◌+◌, ◌≤◌, ◌<◌, Bool, true, false, cond, not, ◌⊎◌, inl, inr, List, [], ◌∷◌, ◌++◌, length, map, Option, Some, None, Result, Ok, Err, codes, refl, sym, ap, subst, ◌∙◌, append_assoc, arith}
-use Rattle.std.specs.Prelude.{◌↔◌, nat_lt, filter, IfOk, IfErr}
+use Rattle.std.proofs.Common.{◌≡◌, ℕ, ◌+◌, Bool, true, false, cond, not, ◌⊎◌, inl, inr, List, [], ◌∷◌, ◌++◌, length, map, Option, Some, None, Result, Ok, Err, codes, refl, sym, ap, subst, ◌∙◌, arith}
+use Rattle.std.specs.Prelude.{nat_lt, filter, IfOk, IfErr}
 use Rattle.std.specs.List.{AllByRecursion}
 use Rattle.std.proofs.lemmas.Bool.{cases_Bool, le-ltb, ltb-false}
 use Rattle.rk_model.specs.declared.scenario.Body.{Body}
@@ -10,12 +10,12 @@ use Rattle.rk_model.specs.declared.scenario.ScenarioWhy.{ScenarioWhy}
 use Rattle.rk_model.specs.declared.scenario.ScenarioWhy.TheVariants.{TooLarge, NotYetBuilt}
 use Rattle.rk_model.specs.Words.{lines_of, words_of, is_plain, is_skipped}
 use Rattle.rk_model.specs.Scenarios.{AreClusters, AreBodies, AreInits, IsCluster, IsTicks, Tells, ScenarioText, IsScenario}
-use Rattle.rk_model.specs.Reading.{Phase, Start, Headed, Clustered, Timed, InBody, InInits, Draft, start, after_told, after_words, after_line, Fault, Verdict, Reads, Faults, at_end, goes_on, verdict_from, verdict, fault_in, scenario_fault}
+use Rattle.rk_model.specs.Reading.{Phase, Start, Headed, Clustered, Timed, InBody, InInits, Draft, start, after_told, after_words, after_line, Fault, Verdict, Reads, Faults, at_end, goes_on, verdict_from, verdict, fault_in}
 use Rattle.rk_scenario.specs.declared.errors.ScenarioError.{ScenarioError}
 use Rattle.rk_scenario.specs.declared.errors.ScenarioError.TheVariants.{Refused, Memory}
-use Rattle.rk_scenario.specs.Outcomes.{Answers, IsRefusal}
+use Rattle.rk_scenario.specs.Outcomes.{Answers, IsRefusal, Gives}
 use Rattle.rk_scenario.specs.Laws.{ReadsTexts, ReadsEachText, OneScenario, FaultlessAreTexts, AreLinesOf}
-use Rattle.rk_scenario.proofs.Left.{InitsLeft, BodiesLeft, TicksLeft, ClusterLeft, HeaderLeft, Completes, draft_at, ends}
+use Rattle.rk_scenario.proofs.Left.{Completes, ends}
 use Rattle.rk_scenario.proofs.Sound.{Keeps, step_sound, end_sound_at}
 use Rattle.rk_scenario.proofs.Complete.{step_taken, end_taken}
 
@@ -263,6 +263,11 @@ faultless_are_texts bytes = (
 pub text_from_answer : (bytes : List ℕ) (r : Result Scenario ScenarioError) → Answers r (verdict bytes) → IfOk r (ScenarioText bytes)
 text_from_answer bytes (Ok s) answer = reads_texts bytes s answer
 text_from_answer bytes (Err e) answer = tt
+
+pub only_from_answer : (bytes : List ℕ) (r : Result Scenario ScenarioError) → Answers r (verdict bytes) → (s : Scenario) → ScenarioText bytes s → Gives r s
+only_from_answer bytes (Ok t) answer s text = let read = reads_each_text bytes s text in cc
+only_from_answer bytes (Err (Refused line why)) answer s text = let read = reads_each_text bytes s text in cc
+only_from_answer bytes (Err Memory) answer s text = tt
 
 pub known_from_answer : (bytes : List ℕ) (r : Result Scenario ScenarioError) → Answers r (verdict bytes) → IfOk r IsScenario
 known_from_answer bytes (Ok s) answer = record { bytes = bytes; text = reads_texts bytes s answer }

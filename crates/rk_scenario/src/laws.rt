@@ -26,5 +26,4 @@ pub fn faultless_bytes_are_texts()
 /// which no text goes on.
 pub fn fault_is_at_first_stop()
     ensures { FaultsAtFirstStop }
-{
-}
+{}

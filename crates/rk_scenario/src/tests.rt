@@ -1,6 +1,6 @@
 use crate::ScenarioError;
 use crate::read::read_scenario;
-use rk_model::{Name, Op, Prio, ScenarioWhy};
+use rk_model::{Init, Name, Op, Prio, Scenario, ScenarioWhy};
 use std::alloc::Global;
 use std::test::Fail;
 
@@ -135,20 +135,26 @@ fn counts_bodies(rt: HostRuntime) -> Result<(), Fail> {
     Ok(())
 }
 
-#[test]
-fn reads_a_whole_text(rt: HostRuntime) -> Result<(), Fail> {
-    let text =
-        "# A scenario.\n\nrtems 1\n  cluster  0x00000001 \nticks 1000\nbody first\nwork 1000000\n\n\
-                # between\ntask.wake_after 0xffffffff\nend\nbody second_1\n  work   7\nend\n\
-                init T_1a 0 255 second_1\ninit aaaa 0 0x00000001 first";
-    let scenario = read_scenario(rt.alloc(), text.as_bytes())
+/// A text with everything that a text may have.
+const WHOLE: &str = "# A scenario.\n\nrtems 1\n  cluster  0x00000001 \nticks 1000\nbody first\n\
+                     work 1000000\n\n# between\ntask.wake_after 0xffffffff\nend\nbody second_1\n\
+                     \x20 work   7\nend\ninit T_1a 0 255 second_1\n\
+                     init aaaa 0 0x00000001 first";
+
+/// The scenario of that text.
+fn whole(alloc: Global) -> Result<Scenario, Fail> {
+    let scenario = read_scenario(alloc, WHOLE.as_bytes())
         .ok()
         .ok_or("it is a text")?;
+    Ok(scenario)
+}
+
+#[test]
+fn reads_numbers_and_bodies(rt: HostRuntime) -> Result<(), Fail> {
+    let scenario = whole(rt.alloc())?;
     assert_eq!(rt; scenario.clusters.as_slice(), [1].as_slice());
-    assert_eq!(rt; scenario.horizon, 1000);
-    assert_eq!(rt; scenario.limit, 200_000);
+    assert_eq!(rt; (scenario.horizon, scenario.limit), (1000, 200_000));
     assert_eq!(rt; scenario.bodies.len(), 2);
-    assert_eq!(rt; scenario.inits.len(), 2);
     let first = scenario.bodies.get(0).ok_or("a body")?;
     assert_eq!(rt; first.name.as_slice(), b"first".as_slice());
     let lines = [Op::Work(1_000_000), Op::TaskWakeAfter(4_294_967_295)];
@@ -156,14 +162,26 @@ fn reads_a_whole_text(rt: HostRuntime) -> Result<(), Fail> {
     let second = scenario.bodies.get(1).ok_or("a body")?;
     assert_eq!(rt; second.name.as_slice(), b"second_1".as_slice());
     assert_eq!(rt; second.lines.as_slice(), [Op::Work(7)].as_slice());
-    let init = scenario.inits.get(0).copied().ok_or("an init")?;
-    assert_eq!(rt; init.name, Name { bits: 0x545f_3161 });
-    assert_eq!(rt; init.cluster, 0);
-    assert_eq!(rt; init.prio, Prio::new(255));
-    assert_eq!(rt; init.body, 1);
-    let init = scenario.inits.get(1).copied().ok_or("an init")?;
-    assert_eq!(rt; init.name, Name { bits: 0x6161_6161 });
-    assert_eq!(rt; init.prio, Prio::new(1));
-    assert_eq!(rt; init.body, 0);
+    Ok(())
+}
+
+#[test]
+fn reads_inits(rt: HostRuntime) -> Result<(), Fail> {
+    let scenario = whole(rt.alloc())?;
+    let inits = [
+        Init {
+            name: Name { bits: 0x545f_3161 },
+            cluster: 0,
+            prio: Prio::new(255),
+            body: 1,
+        },
+        Init {
+            name: Name { bits: 0x6161_6161 },
+            cluster: 0,
+            prio: Prio::new(1),
+            body: 0,
+        },
+    ];
+    assert_eq!(rt; scenario.inits.as_slice(), inits.as_slice());
     Ok(())
 }
