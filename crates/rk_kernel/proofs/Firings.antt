@@ -17,6 +17,7 @@ use Rattle.rk_model.specs.Outcomes.{end_wait, reply_at_timer}
 use Rattle.rk_model.specs.Ticks.{expire, fire, fire_each}
 use Rattle.rk_kernel.specs.Firing.{head_of, due_now, FiresFirst}
 use Rattle.rk_kernel.specs.Sound.{IsSound, IsInBounds, IsGentle, is_timed, has_time, is_in_call}
+use Rattle.rk_kernel.proofs.Tests.{equal_test, and_front, and_back}
 use Rattle.rk_kernel.proofs.Bounds.{bounds_at}
 use Rattle.rk_kernel.proofs.Gentle.{gentle_timers, is_timed_here, is_timed_other}
 use Rattle.rk_kernel.proofs.Sleeping.{timers_of, timed_within}
@@ -67,25 +68,18 @@ due_now-fire k c xs x within due =
     let here : (cluster_at next c).timers ≡ timers = ap (λ (y : ClusterState). y.timers) (get_or-set_same k.clusters c (record (cluster_at k c) { timers = timers }) no_cluster within) in
     ap (due_at k.present) (settled ∙ here) ∙ rest_due k.present (cluster_at k c).timers xs x due
 
-same_test : (t : ℕ) → eqb t t ≡ true
-same_test t = grind (arith, nat_tests)
-
 timed_by : (b : Bool) (n : ℕ) → n + 1 ≡ cond b 1 0 → b ≡ true
 timed_by true n e = refl
 timed_by false n e = absurd (never n e) where
   never : (n : ℕ) → n + 1 ≡ 0 → ⊥
   never n e = omega (arith, e)
 
-and_both : (a b : Bool) → (a && b) ≡ true → (a ≡ true) × (b ≡ true)
-and_both true b h = (refl, h)
-and_both false b h = absurd (false≢true h)
-
 timed_parts : (k : Plain) (c t : ℕ) → is_timed k c t ≡ true → ((thread_at k t).home ≡ c) × (has_time (thread_at k t).wait ≡ true)
 unfolding is_timed
 timed_parts k c t h =
-    let p = and_both (eqb (thread_at k t).home c) (has_time (thread_at k t).wait) h in
-    let home : (thread_at k t).home ≡ c = grind (arith, nat_tests, p.0) in
-    (home, p.1)
+    let at_home = and_front (eqb (thread_at k t).home c) (has_time (thread_at k t).wait) h in
+    let home : (thread_at k t).home ≡ c = grind (arith, nat_tests, at_home) in
+    (home, and_back (eqb (thread_at k t).home c) (has_time (thread_at k t).wait) h)
 
 in_call : (wait : Option Wait) (thread : Thread) → has_time wait ≡ true → is_in_call wait thread.finished ≡ true
 in_call None thread h = absurd (false≢true h)
@@ -113,7 +107,7 @@ expire_gentle k c xs x sound within due =
     let t = thread_of x.who in
     let timers = without_due k.present (cluster_at k c).timers in
     let gone : (u : ℕ) → times u (sleepers timers) + cond (eqb t u) 1 0 ≡ times u (sleepers (cluster_at k c).timers) = λ u. one_gone k.present (cluster_at k c).timers xs x u due in
-    let one : times t (sleepers timers) + 1 ≡ cond (is_timed k c t) 1 0 = ap (λ b. times t (sleepers timers) + cond b 1 0) (sym (same_test t)) ∙ gone t ∙ timers_of k c sound within t in
+    let one : times t (sleepers timers) + 1 ≡ cond (is_timed k c t) 1 0 = ap (λ b. times t (sleepers timers) + cond b 1 0) (sym (equal_test t t refl)) ∙ gone t ∙ timers_of k c sound within t in
     let timed = timed_by (is_timed k c t) (times t (sleepers timers)) one in
     let parts = timed_parts k c t timed in
     let b = bounds_at k t sound in

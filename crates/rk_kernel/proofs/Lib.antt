@@ -1,3 +1,4 @@
+pub mod Tests
 pub mod Scans
 pub mod Pieces
 pub mod Noting

@@ -17,7 +17,8 @@ use Rattle.rk_model.specs.Limits.{IsWithinLimits, cpus_in}
 use Rattle.rk_kernel.proofs.Bounds.{none_bounds}
 use Rattle.rk_kernel.specs.Sound.{stands, own, is_timed, AllSound, IsInBounds, IsSound, KeepsLines, AllTimed, IsGentle}
 use Rattle.rk_kernel.proofs.Counts.{times-filter}
-use Rattle.rk_kernel.proofs.Moving.{no_matter}
+use Rattle.rk_kernel.proofs.Tests.{and_false}
+use Rattle.rk_kernel.proofs.Timing.{never_timed}
 use Rattle.rk_kernel.proofs.Soundness.{sound_settled}
 
 pub length-places : (n : ℕ) (threads : List Thread) → length (places n threads) ≡ n
@@ -41,14 +42,10 @@ never_eligible k t none = rw none refl
 
 never_stands : (k : Plain) (c t : ℕ) → is_eligible k t ≡ false → stands k c t ≡ false
 unfolding stands
-never_stands k c t none = rw none (no_matter ((thread_at k t).home == c))
+never_stands k c t none = rw none (and_false ((thread_at k t).home == c))
 
 none_own : (k : Plain) (c t : ℕ) → is_eligible k t ≡ false → 0 ≡ times t (own k c)
 none_own k c t none = sym (times-filter (stands k c) t (range_with_len 1 (length k.threads)) ∙ (rw (never_stands k c t none) refl))
-
-never_timed : (k : Plain) (c t : ℕ) → (thread_at k t).wait ≡ None → is_timed k c t ≡ false
-unfolding is_timed
-never_timed k c t none = rw none (no_matter ((thread_at k t).home == c))
 
 none_timed : (k : Plain) (c t : ℕ) → (thread_at k t).wait ≡ None → ◌≡◌ {A = ℕ} 0 (cond (is_timed k c t) 1 0)
 none_timed k c t none = rw (never_timed k c t none) refl

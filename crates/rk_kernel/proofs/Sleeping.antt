@@ -22,7 +22,8 @@ use Rattle.std.proofs.lemmas.List.{get_or_past, length-map}
 use Rattle.std.proofs.lemmas.Bool.{cases_lt}
 use Rattle.rk_kernel.proofs.Counts.{length_by_times, length_range}
 use Rattle.rk_kernel.proofs.Bounds.{bounds_at, line_in, arrived_bounds}
-use Rattle.rk_kernel.proofs.Timing.{timers_at}
+use Rattle.rk_kernel.proofs.Tests.{and_false}
+use Rattle.rk_kernel.proofs.Timing.{timers_at, never_timed}
 use Rattle.rk_kernel.proofs.Gentle.{gentle_put, gentle_timers, is_timed_here, is_timed_other, go_on_gentle, exit_gentle}
 
 -- one more timer
@@ -36,20 +37,12 @@ timers_of k h sound within u =
     let e : 0 + h ≡ h = omega arith in
     rw e at (timers_at k 0 h k.clusters within sound.clusters u)
 
-and_false : (b : Bool) → (b && false) ≡ false
-and_false true = refl
-and_false false = refl
-
-no_timer : (k : Plain) (h t : ℕ) → (thread_at k t).wait ≡ None → is_timed k h t ≡ false
-unfolding is_timed
-no_timer k h t none = rw none (and_false (eqb (thread_at k t).home h))
-
 slept_here : (k : Plain) (t h due u : ℕ) (thread : Thread) → IsSound k → h < length k.clusters → 0 < t → t ≤ length k.threads → (thread_at k t).wait ≡ None → thread.home ≡ h → thread.wait ≡ Some ForTime → (b : Bool) → eqb t u ≡ b →
     times u (sleepers ((cluster_at k h).timers ++ (let x : Armed = record { who = OfThread t; due = due } in x) ∷ [])) ≡ cond (is_timed (put_thread k t thread) h u) 1 0
 slept_here k t h due u thread sound within above low none home wait true e =
     let same : t ≡ u = grind (arith, nat_tests, e) in
     let push = sleepers-push u t due (cluster_at k h).timers in
-    let before = timers_of k h sound within u ∙ ap (λ x. cond (is_timed k h x) 1 0) (sym same) ∙ ap (λ b. cond b 1 0) (no_timer k h t none) in
+    let before = timers_of k h sound within u ∙ ap (λ x. cond (is_timed k h x) 1 0) (sym same) ∙ ap (λ b. cond b 1 0) (never_timed k h t none) in
     let now : is_timed (put_thread k t thread) h t ≡ true = is_timed_here k t h thread above low home ∙ ap has_time wait in
     let now_u : is_timed (put_thread k t thread) h u ≡ true = ap (is_timed (put_thread k t thread) h) (sym same) ∙ now in
     push ∙ rw (before, e, now_u) refl
@@ -91,7 +84,7 @@ one_more k h t u above low not false e false timed = omega arith
 -- There is room for the timer of a thread that has none.
 pub room_for_timer : (k : Plain) (h t : ℕ) → IsSound k → h < length k.clusters → 0 < t → t ≤ length k.threads → (thread_at k t).wait ≡ None → length (cluster_at k h).timers < 64
 room_for_timer k h t sound within above low none =
-    let not = no_timer k h t none in
+    let not = never_timed k h t none in
     let few = length_by_times (t ∷ sleepers (cluster_at k h).timers) (range_with_len 1 (length k.threads))
     (λ u. let m = one_more k h t u above low not (eqb t u) refl (is_timed k h u) refl in omega (arith, m, timers_of k h sound within u)) in
     omega (arith, few, length_range 1 (length k.threads), length-map (cluster_at k h).timers (λ (timer : Armed). thread_of timer.who), sound.places)
