@@ -13,18 +13,16 @@ use Rattle.rk_model.specs.Priorities.{is_started, is_no_wait, spins, is_eligible
 use Rattle.rk_model.specs.Lines.{has_cpu}
 use Rattle.rk_model.specs.Running.{all_cpus, cpu_at, view_of, ready, caller}
 use Rattle.rk_kernel.specs.Sound.{stands, own, AllSound, IsSound}
+use Rattle.rk_kernel.proofs.Tests.{equal_test, and_front, and_back}
 use Rattle.rk_kernel.proofs.Counts.{times-filter, times-has, times_range}
 use Rattle.rk_kernel.proofs.Assigning.{either, or_front, or_back}
-
-same_test : (u t : ℕ) → u ≡ t → (u == t) ≡ true
-same_test u t h = grind (arith, nat_tests, h)
 
 -- what a processor of a list has
 at_cpu : (cpus : List (Option ℕ)) (p t : ℕ) → get_or cpus p None ≡ Some t → has_cpu cpus t ≡ true
 at_cpu [] p t h = cc
 at_cpu (None ∷ cpus) zero t h = cc
 at_cpu (None ∷ cpus) (suc p) t h = at_cpu cpus p t h
-at_cpu (Some u ∷ cpus) zero t h = or_front (has_cpu cpus t) (same_test u t cc)
+at_cpu (Some u ∷ cpus) zero t h = or_front (has_cpu cpus t) (equal_test u t cc)
 at_cpu (Some u ∷ cpus) (suc p) t h = or_back (u == t) (at_cpu cpus p t h)
 
 has_cpu-append : (xs ys : List (Option ℕ)) (t : ℕ) → has_cpu (xs ++ ys) t ≡ (has_cpu xs t || has_cpu ys t)
@@ -51,14 +49,6 @@ seated_stands k p t sound h =
     let s = seated_own k t 0 k.clusters sound.clusters (at_cpu (all_cpus k.clusters) p t h) in
     let e : 0 < cond (stands k s.0 t) (times t r) 0 = rw (← times-filter (stands k s.0) t r) s.1 in
     (s.0, passes (stands k s.0 t) (times t r) e)
-
-and_front : (a b : Bool) → (a && b) ≡ true → a ≡ true
-and_front true b h = refl
-and_front false b h = absurd (false≢true h)
-
-and_back : (a b : Bool) → (a && b) ≡ true → b ≡ true
-and_back true b h = h
-and_back false b h = absurd (false≢true h)
 
 stands_eligible : (k : Plain) (c t : ℕ) → stands k c t ≡ true → is_eligible k t ≡ true
 unfolding stands

@@ -21,7 +21,7 @@ use Rattle.rk_model.specs.Steps.{directive, back, action_on, action}
 use Rattle.rk_kernel.specs.Sound.{IsSound, IsInBounds, IsGentle, AllTimed, is_timed, has_time, is_in_call}
 use Rattle.rk_kernel.proofs.Indices.{nth-with_same, nth-with_other, nth-with_kept, length-with_nth, All-with_nth}
 use Rattle.rk_kernel.proofs.Bounds.{bounds_at, line_in, arrived_bounds}
-use Rattle.rk_kernel.proofs.Timing.{keeps_same, keeps_timers, timed_same, timed_put, timers_at, is_timed-put_thread, is_timed-put_elsewhere}
+use Rattle.rk_kernel.proofs.Timing.{keeps_same, keeps_timers, timed_same, timed_put, timers_at, is_timed-put_thread, is_timed-put_elsewhere, is_timed-with_clusters}
 
 -- to put back a thread within its bounds, with its home and its wait
 pub gentle_put : (k : Plain) (t : ℕ) (thread : Thread) → IsSound k → thread.home ≡ (thread_at k t).home → thread.wait ≡ (thread_at k t).wait → IsInBounds (length k.clusters) k.present thread → IsGentle k (put_thread k t thread)
@@ -38,11 +38,6 @@ gentle_put k t thread sound home wait bounds = record {
 elsewhere : (k : Plain) (t d : ℕ) → d ≢ (thread_at k t).home → eqb (thread_at k t).home d ≡ false
 elsewhere k t d other = grind (arith, nat_tests, other)
 
--- who has a timer is asked of the threads alone
-is_timed-with_clusters : (k : Plain) (clusters : List ClusterState) (d u : ℕ) → is_timed (record k { clusters = clusters }) d u ≡ is_timed k d u
-unfolding is_timed
-is_timed-with_clusters k clusters d u = refl
-
 -- to put back a thread within its bounds, with its home, and other timers there, which are those of its threads whose wait has one
 pub gentle_timers : (k : Plain) (t h : ℕ) (thread : Thread) (timers : List Armed) → IsSound k → h ≡ (thread_at k t).home → thread.home ≡ (thread_at k t).home → IsInBounds (length k.clusters) k.present thread →
     ((u : ℕ) → times u (sleepers timers) ≡ cond (is_timed (put_thread k t thread) h u) 1 0) →
@@ -57,9 +52,9 @@ gentle_timers k t h thread timers sound e home bounds here =
       threads = All-with_nth (IsInBounds (length k.clusters) k.present) thread k.threads t bounds sound.threads;
       lines = keeps_timers k.clusters h timers;
       timers = timed_put k (record (put_thread k t thread) { clusters = clusters }) h 0 h k.clusters (record (cluster_at k h) { timers = timers }) (omega arith)
-        (λ d u other. is_timed-with_clusters (put_thread k t thread) clusters d u ∙ is_timed-put_elsewhere k t thread home d u (elsewhere k t d (λ q. other (q ∙ sym e))))
-        (λ u. here u ∙ ap (λ b. cond b 1 0) (sym (is_timed-with_clusters (put_thread k t thread) clusters h u)))
-        sound.clusters;
+          (λ d u other. is_timed-with_clusters (put_thread k t thread) clusters d u ∙ is_timed-put_elsewhere k t thread home d u (elsewhere k t d (λ q. other (q ∙ sym e))))
+          (λ u. here u ∙ ap (λ b. cond b 1 0) (sym (is_timed-with_clusters (put_thread k t thread) clusters h u)))
+          sound.clusters;
     }
 
 home_is : (h : ℕ) (b : Bool) → ((eqb h h) && b) ≡ b

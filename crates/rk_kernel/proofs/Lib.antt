@@ -1,7 +1,7 @@
+pub mod Tests
 pub mod Scans
 pub mod Pieces
 pub mod Noting
-pub mod Ranks
 pub mod Ranges
 pub mod Clusters
 pub mod Settling
@@ -18,3 +18,6 @@ pub mod Callers
 pub mod Openings
 pub mod Ready
 pub mod Passing
+pub mod Firings
+pub mod Runs
+pub mod Sorting

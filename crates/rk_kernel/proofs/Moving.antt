@@ -11,6 +11,7 @@ use Rattle.rk_model.specs.Lists.{has, nth, times}
 use Rattle.rk_model.specs.State.{Plain, no_thread, thread_at}
 use Rattle.rk_model.specs.Priorities.{is_eligible, standing, standings, standings_from, no_standing, nth_standing}
 use Rattle.rk_model.specs.Settling.{is_stay, is_to_end, is_to_front, move_of, moves, makes, making, moved}
+use Rattle.rk_kernel.proofs.Tests.{and_false}
 use Rattle.rk_kernel.specs.Sound.{stands, own, IsGentle}
 use Rattle.rk_kernel.proofs.Counts.{times-append, times-filter, length_by_times, length_filter_le, length_range}
 
@@ -76,14 +77,10 @@ eligible_noted k (suc i) =
     (λ h. rw (get_or_past k.threads i no_thread h, get_or_past (standings_from k 1 (length k.threads)) i no_standing (rw length-standings h)) refl)
     (cases_lt i (length k.threads))
 
-pub no_matter : (b : Bool) → (b && false) ≡ false
-no_matter true = refl
-no_matter false = refl
-
 -- where a thread was eligible, it still has the home that it had
 same_home : (k next : Plain) (c t : ℕ) → IsGentle k next → (e : Bool) → is_eligible k t ≡ e → (((thread_at k t).home == c) && e) ≡ (((thread_at next t).home == c) && e)
 same_home k next c t gentle true is = rw (gentle.homes t is) refl
-same_home k next c t gentle false is = no_matter ((thread_at k t).home == c) ∙ sym (no_matter ((thread_at next t).home == c))
+same_home k next c t gentle false is = and_false ((thread_at k t).home == c) ∙ sym (and_false ((thread_at next t).home == c))
 
 own_placed : (k : Plain) (c t : ℕ) → times t (own k c) ≡ placed (standings k) k.threads c t
 unfolding stands

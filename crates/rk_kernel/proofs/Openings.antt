@@ -1,7 +1,7 @@
 -- The opening state is sound: it is the state with no task yet, changed gently and settled.
-use Rattle.std.proofs.Common.{◌≡◌, ℕ, zero, suc, ◌+◌, ◌<◌, ◌≤◌, List, [], ◌∷◌, false, cond, ◌==◌, Option, None, length, get_or, length-append, map, replicate, arith, refl, ap, sym, ◌∙◌}
-use Rattle.std.specs.List.{AllByRecursion, range_with_len}
-use Rattle.std.proofs.lemmas.List.{length-replicate, length-map}
+use Rattle.std.proofs.Common.{◌≡◌, ℕ, zero, suc, ◌+◌, ◌<◌, ◌≤◌, List, [], ◌∷◌, false, cond, ◌==◌, Option, None, length, get_or, length-append, length-take, ◌++◌, take, map, replicate, arith, refl, ap, sym, ◌∙◌}
+use Rattle.std.specs.List.{AllByRecursion, range_with_len, slice_set}
+use Rattle.std.proofs.lemmas.List.{length-replicate, length-map, map-append, take_more}
 use Rattle.std.proofs.lemmas.List.Elements.{All-from_recursion}
 use Rattle.std.proofs.lemmas.Bool.{false≢true}
 use Rattle.rk_model.specs.declared.scenario.Scenario.{Scenario}
@@ -17,10 +17,11 @@ use Rattle.rk_model.specs.Limits.{IsWithinLimits, cpus_in}
 use Rattle.rk_kernel.proofs.Bounds.{none_bounds}
 use Rattle.rk_kernel.specs.Sound.{stands, own, is_timed, AllSound, IsInBounds, IsSound, KeepsLines, AllTimed, IsGentle}
 use Rattle.rk_kernel.proofs.Counts.{times-filter}
-use Rattle.rk_kernel.proofs.Moving.{no_matter}
+use Rattle.rk_kernel.proofs.Tests.{and_false}
+use Rattle.rk_kernel.proofs.Timing.{never_timed}
 use Rattle.rk_kernel.proofs.Soundness.{sound_settled}
 
-length-places : (n : ℕ) (threads : List Thread) → length (places n threads) ≡ n
+pub length-places : (n : ℕ) (threads : List Thread) → length (places n threads) ≡ n
 length-places zero threads = refl
 length-places (suc n) [] = omega (arith, length-places n [])
 length-places (suc n) (thread ∷ threads) = omega (arith, length-places n threads)
@@ -41,14 +42,10 @@ never_eligible k t none = rw none refl
 
 never_stands : (k : Plain) (c t : ℕ) → is_eligible k t ≡ false → stands k c t ≡ false
 unfolding stands
-never_stands k c t none = rw none (no_matter ((thread_at k t).home == c))
+never_stands k c t none = rw none (and_false ((thread_at k t).home == c))
 
 none_own : (k : Plain) (c t : ℕ) → is_eligible k t ≡ false → 0 ≡ times t (own k c)
 none_own k c t none = sym (times-filter (stands k c) t (range_with_len 1 (length k.threads)) ∙ (rw (never_stands k c t none) refl))
-
-never_timed : (k : Plain) (c t : ℕ) → (thread_at k t).wait ≡ None → is_timed k c t ≡ false
-unfolding is_timed
-never_timed k c t none = rw none (no_matter ((thread_at k t).home == c))
 
 none_timed : (k : Plain) (c t : ℕ) → (thread_at k t).wait ≡ None → ◌≡◌ {A = ℕ} 0 (cond (is_timed k c t) 1 0)
 none_timed k c t none = rw (never_timed k c t none) refl
@@ -136,3 +133,21 @@ gentle_started s within =
 -- The opening state is sound.
 pub sound_opening : (s : Scenario) → IsWithinLimits s → IsSound (opening s)
 sound_opening s within = sound_settled (vacant s) (started s) [] (sound_vacant s within) (gentle_started s within)
+
+-- one more of the first places has a thread
+pub places-push : (n : ℕ) (threads : List Thread) (thread : Thread) (at : ℕ) → at ≡ length threads → at < n → slice_set (places n threads) at thread ≡ places n (threads ++ thread ∷ [])
+places-push zero threads thread at e within = absurd (never at within) where
+  never : (at : ℕ) → at < 0 → ⊥
+  never at h = omega (arith, h)
+places-push (suc n) [] thread at e within = rw e refl
+places-push (suc n) (x ∷ xs) thread zero e within = absurd (omega (arith, e))
+places-push (suc n) (x ∷ xs) thread (suc at) e within = ap (λ ts. x ∷ ts) (places-push n xs thread at (omega (arith, e)) (omega (arith, within)))
+
+-- one more init line's task is started
+pub started_more : (s : Scenario) (threads threads' : List Thread) (thread : Thread) (init : Init) (at : ℕ) → at < length s.inits → length s.inits ≤ 64 → init ≡ get_or s.inits at init → thread ≡ begun s init → threads' ≡ slice_set threads at thread → threads ≡ places 64 (map (begun s) (take at s.inits)) → threads' ≡ places 64 (map (begun s) (take (at + 1) s.inits))
+started_more s threads threads' thread init at within few is made set told =
+    let front = map (begun s) (take at s.inits) in
+    let size : at ≡ length front = omega (arith, length-map (take at s.inits) (begun s), length-take at s.inits) in
+    let more : map (begun s) (take (at + 1) s.inits) ≡ front ++ begun s init ∷ [] =
+    ap (map (begun s)) (take_more s.inits at init within) ∙ map-append (begun s) (take at s.inits) (get_or s.inits at init ∷ []) ∙ ap (λ x. front ++ begun s x ∷ []) (sym is) in
+    set ∙ ap (λ ts. slice_set ts at thread) told ∙ ap (slice_set (places 64 front) at) made ∙ places-push 64 front (begun s init) at size (omega arith) ∙ ap (places 64) (sym more)

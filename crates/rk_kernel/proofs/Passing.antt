@@ -25,7 +25,7 @@ by_test P false x y f g = g refl
 charged_steady : {Y : Type 0} (f : Thread → Y) (s : Scenario) (x : Thread) → ((x : Thread) (line left computed : ℕ) → f (record x { line = line; left = left; computed = computed }) ≡ f x) → f (charged s x) ≡ f x
 charged_steady f s x steady =
     by_test (λ (y : Thread). f y ≡ f x) (eqb x.left 0) _ _ (λ _. refl)
-      (λ _. by_test (λ (y : Thread). f y ≡ f x) (eqb x.left 1) _ _ (λ _. steady x _ _ _) (λ _. steady x x.line _ _))
+    (λ _. by_test (λ (y : Thread). f y ≡ f x) (eqb x.left 1) _ _ (λ _. steady x _ _ _) (λ _. steady x x.line _ _))
 
 charge_steady : {Y : Type 0} (f : Thread → Y) (k : Plain) (t : ℕ) (ts : List Thread) (i : ℕ) → ((x : Thread) (line left computed : ℕ) → f (record x { line = line; left = left; computed = computed }) ≡ f x) → f (get_or (charge_from k t ts) i no_thread) ≡ f (get_or ts i no_thread)
 unfolding ticked
@@ -66,25 +66,27 @@ own-pass k c = rw length-charge_from (filter_agree (stands (pass k) c) (stands k
 
 sound_clusters : (k : Plain) (c : ℕ) (clusters : List ClusterState) → AllSound k c clusters → AllSound (pass k) c clusters
 sound_clusters k c [] sound = tt
-sound_clusters k c (cluster ∷ clusters) sound =
-    (record {
-      few_cpus = sound.0.few_cpus;
-      line = λ t. sound.0.line t ∙ ap (times t) (sym (own-pass k c));
-      manned = sound.0.manned;
-      timers = λ t. sound.0.timers t ∙ ap (λ b. cond b 1 0) (sym (timed-pass k c t));
-    }, sound_clusters k (c + 1) clusters sound.1)
+sound_clusters k c (cluster ∷ clusters) sound = (
+  record {
+    few_cpus = sound.0.few_cpus;
+    line = λ t. sound.0.line t ∙ ap (times t) (sym (own-pass k c));
+    manned = sound.0.manned;
+    timers = λ t. sound.0.timers t ∙ ap (λ b. cond b 1 0) (sym (timed-pass k c t));
+  },
+  sound_clusters k (c + 1) clusters sound.1,
+)
 
 -- a thread that is charged in a tick is within the bounds after it
 charged_bounds : (s : Scenario) (n p : ℕ) (x : Thread) → AllByRecursion (λ (body : Body). length body.lines ≤ 1000) s.bodies → IsInBounds n p x → IsInBounds n (p + 1) (charged s x)
 charged_bounds s n p x short b =
     let P : Thread → Type 0 = IsInBounds n (p + 1) in
     by_test P (eqb x.left 0) _ _ (λ _. record { home = b.home; line = b.line; working = b.working; calling = b.calling; apart = b.apart; computed = omega (arith, b.computed) })
-      (λ some. by_test P (eqb x.left 1) _ _
-        (λ one.
-          let left : 0 < x.left = grind (arith, nat_tests) in
-          let a = arrived_bounds s n p x (x.line + 1) short b.home (omega (arith, b.working left)) b.computed (b.apart left) in
-          record { home = a.home; line = a.line; working = a.working; calling = a.calling; apart = a.apart; computed = omega (arith, b.computed) })
-        (λ more. record { home = b.home; line = b.line; working = λ w. b.working (omega (arith, w)); calling = b.calling; apart = λ w. b.apart (omega (arith, w)); computed = omega (arith, b.computed) }))
+    (λ some. by_test P (eqb x.left 1) _ _
+    (λ one.
+    let left : 0 < x.left = grind (arith, nat_tests) in
+    let a = arrived_bounds s n p x (x.line + 1) short b.home (omega (arith, b.working left)) b.computed (b.apart left) in
+    record { home = a.home; line = a.line; working = a.working; calling = a.calling; apart = a.apart; computed = omega (arith, b.computed) })
+    (λ more. record { home = b.home; line = b.line; working = λ w. b.working (omega (arith, w)); calling = b.calling; apart = λ w. b.apart (omega (arith, w)); computed = omega (arith, b.computed) }))
 
 later_bounds : (n p : ℕ) (x : Thread) → IsInBounds n p x → IsInBounds n (p + 1) x
 later_bounds n p x b = record { home = b.home; line = b.line; working = b.working; calling = b.calling; apart = b.apart; computed = omega (arith, b.computed) }

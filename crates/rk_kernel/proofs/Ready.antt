@@ -12,7 +12,7 @@ use Rattle.rk_kernel.specs.Pieces.{cluster_of, clusters_of, plain_of}
 use Rattle.rk_kernel.specs.Room.{AllRoomy}
 use Rattle.rk_kernel.specs.Sound.{IsSound, IsGentle}
 use Rattle.rk_kernel.proofs.Moving.{length-standings}
-use Rattle.rk_kernel.proofs.Soundness.{roomy_settled, sound_settled, length-kept}
+use Rattle.rk_kernel.proofs.Soundness.{roomy_settled, sound_settled, length-kept, length-settled}
 
 -- what settling asks of the pieces
 pub record IsReady (core : Core) (stood : List Standing) (last : List ℕ) : Type 0 where
@@ -45,3 +45,9 @@ settled_sound k next before after stood last sound gentle is stands settled = su
 -- a list that notes how the threads stand has 64 places
 pub noted_length : (k : Plain) (stood : List Standing) → IsSound k → stood ≡ standings k → length stood ≡ 64
 noted_length k stood sound stands = ap length stands ∙ length-standings k 1 (length k.threads) ∙ sound.places
+
+-- there are as many clusters as before
+pub settled_count : (k next : Plain) (before after : Core) (stood : List Standing) (last : List ℕ) → IsGentle k next → plain_of before ≡ next → plain_of after ≡ settle_by stood (plain_of before) last → length after.clusters ≡ length k.clusters
+settled_count k next before after stood last gentle is settled =
+    sym (length-map after.clusters cluster_of) ∙ ap (λ (n : Plain). length n.clusters) settled ∙ length-settled _ _ before.threads 0 (clusters_of before.clusters)
+    ∙ ap (λ (n : Plain). length n.clusters) is ∙ length-kept k.clusters next.clusters gentle.lines

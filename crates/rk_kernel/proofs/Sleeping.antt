@@ -22,7 +22,8 @@ use Rattle.std.proofs.lemmas.List.{get_or_past, length-map}
 use Rattle.std.proofs.lemmas.Bool.{cases_lt}
 use Rattle.rk_kernel.proofs.Counts.{length_by_times, length_range}
 use Rattle.rk_kernel.proofs.Bounds.{bounds_at, line_in, arrived_bounds}
-use Rattle.rk_kernel.proofs.Timing.{timers_at}
+use Rattle.rk_kernel.proofs.Tests.{and_false}
+use Rattle.rk_kernel.proofs.Timing.{timers_at, never_timed}
 use Rattle.rk_kernel.proofs.Gentle.{gentle_put, gentle_timers, is_timed_here, is_timed_other, go_on_gentle, exit_gentle}
 
 -- one more timer
@@ -36,20 +37,12 @@ timers_of k h sound within u =
     let e : 0 + h ≡ h = omega arith in
     rw e at (timers_at k 0 h k.clusters within sound.clusters u)
 
-and_false : (b : Bool) → (b && false) ≡ false
-and_false true = refl
-and_false false = refl
-
-no_timer : (k : Plain) (h t : ℕ) → (thread_at k t).wait ≡ None → is_timed k h t ≡ false
-unfolding is_timed
-no_timer k h t none = rw none (and_false (eqb (thread_at k t).home h))
-
 slept_here : (k : Plain) (t h due u : ℕ) (thread : Thread) → IsSound k → h < length k.clusters → 0 < t → t ≤ length k.threads → (thread_at k t).wait ≡ None → thread.home ≡ h → thread.wait ≡ Some ForTime → (b : Bool) → eqb t u ≡ b →
     times u (sleepers ((cluster_at k h).timers ++ (let x : Armed = record { who = OfThread t; due = due } in x) ∷ [])) ≡ cond (is_timed (put_thread k t thread) h u) 1 0
 slept_here k t h due u thread sound within above low none home wait true e =
     let same : t ≡ u = grind (arith, nat_tests, e) in
     let push = sleepers-push u t due (cluster_at k h).timers in
-    let before = timers_of k h sound within u ∙ ap (λ x. cond (is_timed k h x) 1 0) (sym same) ∙ ap (λ b. cond b 1 0) (no_timer k h t none) in
+    let before = timers_of k h sound within u ∙ ap (λ x. cond (is_timed k h x) 1 0) (sym same) ∙ ap (λ b. cond b 1 0) (never_timed k h t none) in
     let now : is_timed (put_thread k t thread) h t ≡ true = is_timed_here k t h thread above low home ∙ ap has_time wait in
     let now_u : is_timed (put_thread k t thread) h u ≡ true = ap (is_timed (put_thread k t thread) h) (sym same) ∙ now in
     push ∙ rw (before, e, now_u) refl
@@ -63,8 +56,8 @@ sleep_gentle k t ticks sound above low none done line =
     let b = bounds_at k t sound in
     let thread : Thread = record (thread_at k t) { wait = Some ForTime } in
     gentle_timers k t (thread_at k t).home thread _ sound refl refl
-      (record { home = b.home; line = b.line; working = b.working; calling = λ _. line; apart = λ w. absurd (omega (arith, w, done)); computed = b.computed })
-      (λ u. slept_here k t (thread_at k t).home (k.present + ticks) u thread sound b.home above low none refl refl (eqb t u) refl)
+    (record { home = b.home; line = b.line; working = b.working; calling = λ _. line; apart = λ w. absurd (omega (arith, w, done)); computed = b.computed })
+    (λ u. slept_here k t (thread_at k t).home (k.present + ticks) u thread sound b.home above low none refl refl (eqb t u) refl)
 
 outside_range : (t a n : ℕ) → t < a → times t (range_with_len a n) ≡ 0
 outside_range t a zero low = refl
@@ -75,12 +68,12 @@ once_in_range t a zero low high = absurd (omega arith)
 once_in_range t a (suc n) low high = grind (arith, nat_tests, once_in_range t (a + 1) n, outside_range t (a + 1) n)
 
 -- a thread whose wait has a timer is one of the threads
-timed_within : (k : Plain) (h t : ℕ) → is_timed k h t ≡ true → (0 < t) × (t ≤ length k.threads)
+pub timed_within : (k : Plain) (h t : ℕ) → is_timed k h t ≡ true → (0 < t) × (t ≤ length k.threads)
 unfolding is_timed
 timed_within k h zero timed = absurd (false≢true (sym (and_false (eqb 0 h)) ∙ timed))
 timed_within k h (suc i) timed =
     ⊎_elim (λ w. let low : 0 < suc i = omega arith in let high : suc i ≤ length k.threads = omega (arith, w) in (low, high))
-      (λ w. absurd (false≢true (sym (and_false (eqb 0 h)) ∙ (rw (get_or_past k.threads i no_thread w) at timed)))) (cases_lt i (length k.threads))
+    (λ w. absurd (false≢true (sym (and_false (eqb 0 h)) ∙ (rw (get_or_past k.threads i no_thread w) at timed)))) (cases_lt i (length k.threads))
 
 one_more : (k : Plain) (h t u : ℕ) → 0 < t → t ≤ length k.threads → is_timed k h t ≡ false → (b : Bool) → eqb t u ≡ b → (d : Bool) → is_timed k h u ≡ d → cond b 1 0 + cond d 1 0 ≤ times u (range_with_len 1 (length k.threads))
 one_more k h t u above low not true e true timed = let same : t ≡ u = grind (arith, nat_tests, e) in absurd (false≢true (sym not ∙ ap (is_timed k h) same ∙ timed))
@@ -91,9 +84,9 @@ one_more k h t u above low not false e false timed = omega arith
 -- There is room for the timer of a thread that has none.
 pub room_for_timer : (k : Plain) (h t : ℕ) → IsSound k → h < length k.clusters → 0 < t → t ≤ length k.threads → (thread_at k t).wait ≡ None → length (cluster_at k h).timers < 64
 room_for_timer k h t sound within above low none =
-    let not = no_timer k h t none in
+    let not = never_timed k h t none in
     let few = length_by_times (t ∷ sleepers (cluster_at k h).timers) (range_with_len 1 (length k.threads))
-      (λ u. let m = one_more k h t u above low not (eqb t u) refl (is_timed k h u) refl in omega (arith, m, timers_of k h sound within u)) in
+    (λ u. let m = one_more k h t u above low not (eqb t u) refl (is_timed k h u) refl in omega (arith, m, timers_of k h sound within u)) in
     omega (arith, few, length_range 1 (length k.threads), length-map (cluster_at k h).timers (λ (timer : Armed). thread_of timer.who), sound.places)
 
 -- a thread returns from a directive that waited
@@ -102,7 +95,7 @@ back_gentle k t reply sound none finished =
     let b = bounds_at k t sound in
     let low = b.calling (rw (none, finished) refl) in
     gentle_put k t (gone_on k.scenario (record (thread_at k t) { finished = None })) sound refl refl
-      (arrived_bounds k.scenario (length k.clusters) k.present (record (thread_at k t) { finished = None }) ((thread_at k t).line + 1) sound.bodies b.home (omega arith) b.computed (rw none refl))
+    (arrived_bounds k.scenario (length k.clusters) k.present (record (thread_at k t) { finished = None }) ((thread_at k t).line + 1) sound.bodies b.home (omega arith) b.computed (rw none refl))
 
 wake_after_gentle : (k : Plain) (t ticks : ℕ) → IsSound k → 0 < t → t ≤ length k.threads → (thread_at k t).wait ≡ None → (thread_at k t).finished ≡ None → (thread_at k t).left ≡ 0 → (thread_at k t).line ≤ 1000 → (b : Bool) → eqb ticks 0 ≡ b → IsGentle k (cond b (yield k t) (sleep k t ticks)).next
 wake_after_gentle k t ticks sound above low none free done line true e = go_on_gentle k t sound line (rw (none, free) refl)
@@ -116,7 +109,7 @@ directive_gentle k t (Some (TaskWakeAfter n)) sound above low none free done lin
 action_on_gentle : (k : Plain) (t : ℕ) (finished : Option Reply) → (thread_at k t).finished ≡ finished → IsSound k → 0 < t → t ≤ length k.threads → (thread_at k t).wait ≡ None → (thread_at k t).left ≡ 0 → IsGentle k (action_on k t finished).next
 action_on_gentle k t None e sound above low none done =
     directive_gentle k t (op_at k.scenario (thread_at k t).body (thread_at k t).line) sound above low none e done
-      (λ h. line_in k.scenario.bodies (thread_at k t).body (thread_at k t).line sound.bodies h)
+    (λ h. line_in k.scenario.bodies (thread_at k t).body (thread_at k t).line sound.bodies h)
 action_on_gentle k t (Some reply) e sound above low none done = back_gentle k t reply sound none e
 
 -- What a thread that waits for nothing and computes nothing does is gentle.

@@ -10,6 +10,7 @@ use Rattle.rk_model.specs.Settling.{moves, moved, key_of, settled_cluster, settl
 use Rattle.rk_model.specs.Running.{all_cpus}
 use Rattle.rk_kernel.specs.Room.{AllRoomy}
 use Rattle.rk_kernel.specs.Sound.{stands, is_timed, own, IsClusterSound, AllSound, IsSound, KeepsLines, AllTimed, IsGentle}
+use Rattle.rk_kernel.proofs.Timing.{is_timed-with_clusters}
 use Rattle.rk_kernel.proofs.Moving.{line_moved, line_short}
 use Rattle.rk_kernel.proofs.Assigning.{length-assigned, assigned_has}
 
@@ -37,10 +38,6 @@ own-with_clusters : (k : Plain) (clusters : List ClusterState) (c t : ℕ) → t
 unfolding stands is_eligible
 own-with_clusters k clusters c t = refl
 
-is_timed-with_clusters : (k : Plain) (clusters : List ClusterState) (c t : ℕ) → is_timed k c t ≡ is_timed (record k { clusters = clusters }) c t
-unfolding is_timed
-is_timed-with_clusters k clusters c t = refl
-
 all_sound : (k next : Plain) (last : List ℕ) (clusters : List ClusterState) (c : ℕ) (olds news : List ClusterState) → IsGentle k next → AllSound k c olds → KeepsLines olds news → AllTimed next c news →
     AllSound (record next { clusters = clusters }) c (settled_from (moves (standings k) (standings next) last) (key_of (standings next)) next.threads c news)
 all_sound k next last clusters c [] [] gentle sound keeps timed = tt
@@ -54,12 +51,12 @@ all_sound k next last clusters c (a ∷ olds) (b ∷ news) gentle sound keeps ti
         few_cpus = rw (length-assigned, keeps.1) sound.0.few_cpus;
         line = λ t. line_kept k next last c a b gentle sound.0 keeps.0 t ∙ own-with_clusters next clusters c t;
         manned = λ t h. assigned_has key b.cpus (length b.cpus) line t h;
-        timers = λ t. rw (← is_timed-with_clusters next clusters c t) (timed.0 t);
+        timers = λ t. rw (is_timed-with_clusters next clusters c t) (timed.0 t);
       },
       all_sound k next last clusters (c + 1) olds news gentle sound.1 keeps.2 timed.1,
     )
 
-length-settled : (move : ℕ → Move) (key : ℕ → ℕ) (threads : List Thread) (c : ℕ) (clusters : List ClusterState) → length (settled_from move key threads c clusters) ≡ length clusters
+pub length-settled : (move : ℕ → Move) (key : ℕ → ℕ) (threads : List Thread) (c : ℕ) (clusters : List ClusterState) → length (settled_from move key threads c clusters) ≡ length clusters
 length-settled move key threads c [] = refl
 length-settled move key threads c (cluster ∷ clusters) = omega (arith, length-settled move key threads (c + 1) clusters)
 

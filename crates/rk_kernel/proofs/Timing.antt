@@ -1,5 +1,5 @@
 -- Timers and the threads that they are of.
-use Rattle.std.proofs.Common.{◌≡◌, ◌≢◌, ℕ, zero, suc, ◌+◌, ◌-◌, ◌<◌, ◌≤◌, List, [], ◌∷◌, ◌++◌, Bool, true, false, cond, eqb, ◌&&◌, length, get_or, set, arith, refl, sym, ◌∙◌, ap}
+use Rattle.std.proofs.Common.{◌≡◌, ◌≢◌, ℕ, zero, suc, ◌+◌, ◌-◌, ◌<◌, ◌≤◌, List, [], ◌∷◌, ◌++◌, Bool, true, false, cond, eqb, ◌&&◌, None, length, get_or, set, arith, refl, sym, ◌∙◌, ap}
 use Rattle.std.specs.List.{slice_set, slice_index_or}
 use Rattle.rk_model.specs.declared.state.Thread.{Thread}
 use Rattle.rk_model.specs.declared.state.Armed.{Armed}
@@ -7,6 +7,7 @@ use Rattle.rk_model.specs.Lists.{times}
 use Rattle.rk_model.specs.State.{Plain, ClusterState, no_cluster, no_thread, thread_at, put_thread}
 use Rattle.rk_model.specs.Timers.{sleepers}
 use Rattle.rk_kernel.specs.Sound.{IsSound, IsClusterSound, AllSound, AllTimed, KeepsLines, is_timed, has_time}
+use Rattle.rk_kernel.proofs.Tests.{and_false}
 use Rattle.rk_kernel.proofs.Indices.{nth-with_kept}
 
 -- each cluster keeps its line and processors where nothing changes
@@ -58,11 +59,18 @@ unfolding is_timed
 is_timed-put_thread k t thread home wait d u =
     nth-with_kept (λ (x : Thread). (eqb x.home d) && has_time x.wait) no_thread thread k.threads t u (rw (home, wait) refl)
 
-false_and : (b : Bool) → (false && b) ≡ false
-false_and b = refl
-
 -- and one that is put back with its home alone has one as before in the other clusters
 pub is_timed-put_elsewhere : (k : Plain) (t : ℕ) (thread : Thread) → thread.home ≡ (thread_at k t).home → (d u : ℕ) → eqb (thread_at k t).home d ≡ false → is_timed (put_thread k t thread) d u ≡ is_timed k d u
 unfolding is_timed
 is_timed-put_elsewhere k t thread home d u other =
     nth-with_kept (λ (x : Thread). (eqb x.home d) && has_time x.wait) no_thread thread k.threads t u (rw (home, other) refl)
+
+-- a thread that waits for nothing has no timer
+pub never_timed : (k : Plain) (c t : ℕ) → (thread_at k t).wait ≡ None → is_timed k c t ≡ false
+unfolding is_timed
+never_timed k c t none = rw none (and_false (eqb (thread_at k t).home c))
+
+-- who has a timer is asked of the threads alone
+pub is_timed-with_clusters : (k : Plain) (clusters : List ClusterState) (d u : ℕ) → is_timed (record k { clusters = clusters }) d u ≡ is_timed k d u
+unfolding is_timed
+is_timed-with_clusters k clusters d u = refl

@@ -5,3 +5,4 @@ pub mod Firing
 pub mod Noted
 pub mod Does
 pub mod Step
+pub mod Urgency

@@ -15,8 +15,8 @@ use crate::places::{arrive, least_of, put, runs_on_some};
 use crate::settle::settle_core;
 use crate::standing::{note_all, thread_of};
 use crate::steps::CoreTick;
-use crate::timers::take_due_of;
-use rk_model::{Armer, Items, Reply, Scenario, Status, Thread, ThreadIx, Wait};
+use crate::timers::{take_due_of, thread_of_timer};
+use rk_model::{Items, Reply, Scenario, Status, Thread, ThreadIx, Wait};
 use std::mem;
 
 /// A thread that runs through a tick.
@@ -125,8 +125,7 @@ fn fire_first(core: &mut Core, scratch: &mut Scratch, cluster: usize) -> bool
     match take_due_of(core, cluster) {
         None => false,
         Some(timer) => {
-            let Armer::Thread(thread) = timer.who;
-            finish_wait(core, thread);
+            finish_wait(core, thread_of_timer(timer.who));
             scratch.last.clear();
             settle_core(core, scratch);
             true

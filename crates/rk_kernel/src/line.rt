@@ -1,13 +1,13 @@
-ghost use Rattle.std.specs.Prelude.{◌≡◌, ◌<◌, ◌≤◌, ◌+◌, ◌-◌, ◌++◌, ◌∷◌, ◌==◌, [], ℕ, length, take, drop, map, filter, not, count_by, nat_le, nat_lt};
-ghost use Rattle.std.specs.List.{slice_index_or};
-ghost use Rattle.std.specs.Option.{option_to_list};
+ghost use Rattle.std.specs.Prelude.{◌≡◌, ◌≤◌, ◌++◌, length, take, map, filter, not};
 ghost use Rattle.rk_model.specs.Lists.{has};
-ghost use Rattle.rk_model.specs.Lines.{rank, nth_urgent, ranked_from, most_urgent, has_cpu, kept, filled};
+ghost use Rattle.rk_model.specs.Lines.{most_urgent, has_cpu, kept, filled};
 ghost use Rattle.rk_model.specs.Settling.{key_of};
+ghost use Rattle.rk_kernel.specs.Urgency.{place, inserted};
 
 use crate::core_state::Line;
 use crate::standing::nth_of;
 use rk_model::{Items, Standing, ThreadIx};
+use std::mem;
 
 /// Whether the thread is in the list.
 pub(crate) fn contains(list: &[ThreadIx], thread: ThreadIx) -> bool
@@ -21,63 +21,66 @@ pub(crate) fn contains(list: &[ThreadIx], thread: ThreadIx) -> bool
     false
 }
 
-/// Whether exactly so many threads of a line are more urgent than one of it: it stops as soon as
-/// there are more.
-fn has_rank(
-    now: &[Standing],
-    front: &[ThreadIx],
-    thread: ThreadIx,
-    back: &[ThreadIx],
-    count: usize,
-) -> bool
-    ensures { result ≡ (rank (key_of now.now) front.now thread back.now == count) }
+/// How many threads of a list stand in front of the first that is less urgent than this priority.
+fn place_of(now: &[Standing], list: &[ThreadIx], prio: u8) -> usize
+    ensures place { result ≡ place (key_of now.now) prio list.now }
+    ensures within { result ≤ length list.now }
 {
-    let prio = nth_of(now, thread).prio;
-    let mut found = 0;
-    for ahead in front {
-        if nth_of(now, *ahead).prio <= prio {
-            if found == count {
-                return false;
-            }
-            found += 1;
+    for (at, thread) in list.iter().enumerate() {
+        if prio < nth_of(now, *thread).prio {
+            return at;
         }
     }
-    for behind in back {
-        if nth_of(now, *behind).prio < prio {
-            if found == count {
-                return false;
-            }
-            found += 1;
-        }
-    }
-    found == count
+    list.len()
 }
 
-/// The thread of the line with exactly so many more urgent ones.
-fn nth(now: &[Standing], line: &[ThreadIx], count: usize) -> Option<ThreadIx>
-    ensures { result ≡ nth_urgent (key_of now.now) count line.now }
+/// Adds threads up to a length.
+fn push_within(out: &mut Line, list: &[ThreadIx], most: usize)
+    requires few { most ≤ 64 }
+    requires fits { length out.old ≤ most }
+    ensures { out.new ≡ take most (out.old ++ list.now) }
 {
-    for at in 0..line.len() {
-        let thread = line[at];
-        if has_rank(now, &line[..at], thread, &line[at + 1..], count) {
-            return Some(thread);
+    for thread in list {
+        if out.len() == most {
+            return;
         }
+        out.push(*thread);
     }
-    None
+}
+
+/// Puts a thread into a list that has the most urgent ones first, behind those that are as urgent
+/// as it. The list keeps so many at most.
+fn insert(out: &mut Line, room: &mut Line, now: &[Standing], thread: ThreadIx, most: usize)
+    requires few { most ≤ 64 }
+    requires fits { length out.old ≤ most }
+    ensures { out.new ≡ take most (inserted (key_of now.now) thread out.old) }
+{
+    let at = place_of(now, out.as_slice(), nth_of(now, thread).prio);
+    if at < most {
+        room.clear();
+        push_within(room, &out.as_slice()[..at], most);
+        room.push(thread);
+        push_within(room, &out.as_slice()[at..], most);
+        mem::swap(out, room);
+    }
 }
 
 /// Puts the threads of the line with fewer than so many more urgent ones into `out`, the most
-/// urgent first.
-pub(crate) fn find_runners(out: &mut Line, now: &[Standing], line: &[ThreadIx], count: usize)
+/// urgent first: each thread of the line is inserted into the most urgent ones so far.
+pub(crate) fn find_runners(
+    out: &mut Line,
+    room: &mut Line,
+    now: &[Standing],
+    line: &[ThreadIx],
+    count: usize,
+)
     requires { count ≤ 64 }
     ensures found { out.new ≡ most_urgent (key_of now.now) count line.now }
     ensures few { length out.new ≤ count }
 {
     out.clear();
-    for n in 0..count {
-        if let Some(thread) = nth(now, line, n) {
-            out.push(thread);
-        }
+    for thread in line {
+        insert(out, room, now, *thread, count);
     }
 }
 

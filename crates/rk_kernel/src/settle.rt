@@ -1,6 +1,4 @@
-ghost use Rattle.std.specs.Prelude.{◌≡◌, ◌≤◌, ◌<◌, ◌+◌, ◌-◌, ◌++◌, ◌∷◌, [], length, filter, take, drop, map};
-ghost use Rattle.std.specs.List.{slice_index_or, range_with_len};
-ghost use Rattle.rk_model.specs.Lists.{has, nth};
+ghost use Rattle.std.specs.Prelude.{◌≡◌, ◌≤◌, ◌++◌, length, filter};
 ghost use Rattle.rk_model.specs.Priorities.{standings};
 ghost use Rattle.rk_model.specs.Settling.{move_of, moves, makes, making, moved, is_to_front, is_to_end, is_stay, key_of, settled_cluster, settled_from, settle_by};
 ghost use Rattle.rk_kernel.specs.Pieces.{plain_of, cluster_of, clusters_of};
@@ -179,6 +177,7 @@ fn settle_cluster(cluster: &mut ClusterPart, scratch: &mut Scratch, threads: &[T
     );
     find_runners(
         &mut scratch.running,
+        &mut scratch.fresh,
         scratch.now.as_slice(),
         cluster.line.as_slice(),
         cluster.cpus.len(),

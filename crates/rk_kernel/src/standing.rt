@@ -1,7 +1,7 @@
-ghost use Rattle.std.specs.Prelude.{◌≡◌, ◌≤◌, ◌<◌, ◌+◌, ◌-◌, length};
+ghost use Rattle.std.specs.Prelude.{◌≡◌, ◌≤◌, length};
 ghost use Rattle.rk_model.specs.Lists.{nth};
 ghost use Rattle.rk_model.specs.State.{no_thread};
-ghost use Rattle.rk_model.specs.Priorities.{spins as spins_of, is_eligible, prio, home_prio, standing, standings, standings_from, nth_standing};
+ghost use Rattle.rk_model.specs.Priorities.{spins as spins_of, is_eligible, prio, home_prio, standing, standings, nth_standing};
 ghost use Rattle.rk_kernel.specs.Pieces.{plain_of};
 
 use crate::core_state::Core;

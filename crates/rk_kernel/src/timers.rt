@@ -1,11 +1,11 @@
 ghost use Rattle.std.specs.Prelude.{◌≡◌, ◌<◌, ◌≤◌, ◌+◌, ◌-◌, ◌++◌, ◌∷◌, [], ℕ, length};
 ghost use Rattle.rk_model.specs.State.{cluster_at};
-ghost use Rattle.rk_model.specs.Timers.{arm, due_at, without_due, take_due};
+ghost use Rattle.rk_model.specs.Timers.{arm, due_at, without_due, take_due, thread_of};
 ghost use Rattle.rk_kernel.specs.Pieces.{plain_of};
 ghost use Rattle.rk_kernel.specs.Firing.{head_of};
 
 use crate::core_state::{Core, Timers};
-use rk_model::{Armed, Armer};
+use rk_model::{Armed, Armer, ThreadIx};
 
 /// Arms a timer of a cluster, as its last.
 pub(crate) fn arm_timer(core: &mut Core, cluster: u8, who: Armer, due: u64)
@@ -13,11 +13,7 @@ pub(crate) fn arm_timer(core: &mut Core, cluster: u8, who: Armer, due: u64)
     requires room { length (cluster_at (plain_of core.old) cluster).timers < 64 }
     ensures { plain_of core.new ≡ arm (plain_of core.old) cluster (record { who = who; due = due }) }
 {
-    add(
-        &mut core.clusters.at_mut(cluster as usize).timers,
-        who,
-        due,
-    );
+    add(&mut core.clusters.at_mut(cluster as usize).timers, who, due);
 }
 
 /// Adds a timer as the last.
@@ -49,4 +45,13 @@ pub(crate) fn take_due_of(core: &mut Core, cluster: usize) -> Option<Armed>
 {
     let now = u64::from(core.present);
     take_first(&mut core.clusters.at_mut(cluster).timers, now)
+}
+
+/// The thread whose timer it is.
+pub(crate) fn thread_of_timer(who: Armer) -> ThreadIx
+    ensures { result ≡ thread_of who }
+{
+    match who {
+        Armer::Thread(thread) => thread,
+    }
 }

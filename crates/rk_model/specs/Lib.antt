@@ -16,4 +16,5 @@ pub mod Words
 pub mod Scenarios
 pub mod Limits
 pub mod Schedules
+pub mod Laws
 pub mod Reading

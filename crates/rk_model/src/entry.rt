@@ -32,6 +32,9 @@ pub struct Entry {
     pub out: u32,
 }
 
+// A history of 1,000,000 entries takes at most 64 MB.
+const _: () = prove!(size_of::<Entry>() <= 64);
+
 /// What a directive answers.
 #[derive(Clone, Copy, Debug, PartialEq, Eq)]
 pub struct Reply {

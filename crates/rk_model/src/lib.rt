@@ -16,6 +16,8 @@ mod scenario;
 mod settling;
 mod state;
 mod status;
+#[cfg(test)]
+mod tests;
 
 pub use bounded::Bounded;
 pub use entry::{Entry, Reply, View, What, Why};

@@ -1,5 +1,5 @@
 -- What tells a scenario is taken by the machine: each line of what completes a draft is a step to a draft that the rest completes.
-use Rattle.std.proofs.Common.{◌≡◌, ℕ, ◌+◌, ◌≤◌, ◌<◌, Bool, true, false, List, [], ◌∷◌, ◌++◌, length, Option, Some, None, Result, Ok, Err, codes, refl, sym, ap, subst, ◌∙◌, append_assoc, arith, length-append}
+use Rattle.std.proofs.Common.{◌≡◌, ℕ, ◌≤◌, true, false, List, [], ◌∷◌, ◌++◌, length, Some, None, Ok, codes, refl, sym, ap, subst, ◌∙◌, append_assoc, arith, length-append}
 use Rattle.std.specs.Prelude.{nat_lt}
 use Rattle.std.proofs.lemmas.Bool.{lt-ltb}
 use Rattle.std.proofs.lemmas.List.{append-nil}
@@ -8,13 +8,11 @@ use Rattle.rk_model.specs.declared.scenario.Op.TheVariants.{Work, TaskWakeAfter}
 use Rattle.rk_model.specs.declared.scenario.Body.{Body}
 use Rattle.rk_model.specs.declared.scenario.Init.{Init}
 use Rattle.rk_model.specs.declared.scenario.Scenario.{Scenario}
-use Rattle.rk_model.specs.declared.scenario.ScenarioWhy.{ScenarioWhy}
-use Rattle.rk_model.specs.Words.{is_body_name}
-use Rattle.rk_model.specs.Scenarios.{IsNumber, IsOp, AreOps, AreBodies, AreDistinct, AreInits, IsBody, IsInit, body_of}
-use Rattle.rk_model.specs.Reading.{Phase, Start, Headed, Clustered, Timed, InBody, InInits, Draft, no_body, number_operand, op_line, init_operands, is_header, is_end, cluster_line, ticks_line, body_line, inner_line, init_line, at_inits, after_told}
+use Rattle.rk_model.specs.Scenarios.{IsNumber, IsOp, AreOps, AreBodies, AreDistinct, AreInits, IsInit, body_of}
+use Rattle.rk_model.specs.Reading.{Phase, Start, Headed, Clustered, Timed, InBody, InInits, Draft, no_body, op_line, init_operands, is_header, is_end, cluster_line, ticks_line, body_line, inner_line, init_line, after_told}
 use Rattle.rk_scenario.proofs.Spelled.{number_is, op_is, init_is}
 use Rattle.rk_scenario.proofs.Named.{unknown_before}
-use Rattle.rk_scenario.proofs.Left.{InitsLeft, BodiesLeft, BodyLeft, TicksLeft, ClusterLeft, HeaderLeft, Completes, draft_at, ends, IsInit-kept, init_operands-kept}
+use Rattle.rk_scenario.proofs.Left.{InitsLeft, BodiesLeft, TicksLeft, ClusterLeft, HeaderLeft, Completes, draft_at, ends, init_operands-kept}
 
 -- The machine takes these words, to a draft that the lines after them complete.
 pub record IsTaken (p : Phase) (b : Scenario) (o : Body) (words : List (List ℕ)) (told : List (List (List ℕ))) (s : Scenario) : Type 0 where
@@ -126,7 +124,7 @@ timed_taken b o words told bodies inits s (body ∷ more) told_is are few distin
     let end : List (List (List ℕ)) = (codes "end" ∷ []) ∷ [] in
     let bodies-are : bodies ≡ (line ∷ is.inner ++ end) ++ rest = are.2 ∙ ap (λ (x : List (List (List ℕ))). x ++ rest) is.told_is in
     let whole : words ∷ told ≡ line ∷ (is.inner ++ (end ++ (rest ++ inits))) =
-        told_is ∙ ap (λ (x : List (List (List ℕ))). x ++ inits) bodies-are ∙ append_assoc (line ∷ is.inner ++ end) rest inits ∙ append_assoc (line ∷ is.inner) end (rest ++ inits) in
+    told_is ∙ ap (λ (x : List (List (List ℕ))). x ++ inits) bodies-are ∙ append_assoc (line ∷ is.inner ++ end) rest inits ∙ append_assoc (line ∷ is.inner) end (rest ++ inits) in
     let word : words ≡ line = cc whole in
     let all : s.bodies ≡ b.bodies ++ body ∷ more = ap (λ (x : Scenario). x.bodies) after.whole in
     let room : nat_lt (length b.bodies) 32 ≡ true = lt-ltb (length b.bodies) 32 (omega (arith, length-append b.bodies (body ∷ more), ap length all)) in

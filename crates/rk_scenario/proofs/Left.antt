@@ -1,11 +1,10 @@
 -- What the lines that are left must still say at each phase of the machine, so that what was read so far and they tell a scenario.
-use Rattle.std.proofs.Common.{◌≡◌, ℕ, ◌+◌, ◌≤◌, ◌<◌, List, [], ◌∷◌, ◌++◌, length, Option, Some, None, codes, refl, subst}
+use Rattle.std.proofs.Common.{◌≡◌, ℕ, ◌≤◌, List, [], ◌∷◌, ◌++◌, length, Option, Some, None, codes, refl}
 use Rattle.rk_model.specs.declared.scenario.Op.{Op}
 use Rattle.rk_model.specs.declared.scenario.Body.{Body}
 use Rattle.rk_model.specs.declared.scenario.Init.{Init}
 use Rattle.rk_model.specs.declared.scenario.Scenario.{Scenario}
-use Rattle.rk_model.specs.Words.{is_body_name}
-use Rattle.rk_model.specs.Scenarios.{AreOps, AreBodies, AreDistinct, AreInits, IsCluster, IsTicks, IsInit, body_of}
+use Rattle.rk_model.specs.Scenarios.{AreOps, AreBodies, AreDistinct, AreInits, IsCluster, IsTicks, IsInit}
 use Rattle.rk_model.specs.Reading.{Phase, Start, Headed, Clustered, Timed, InBody, InInits, Draft, init_operands}
 
 -- init lines, after those of b

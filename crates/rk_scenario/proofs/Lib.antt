@@ -5,3 +5,4 @@ pub mod Left
 pub mod Sound
 pub mod Complete
 pub mod Texts
+pub mod Stops

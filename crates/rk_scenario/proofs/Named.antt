@@ -48,9 +48,10 @@ unknown_before front body back distinct = none_of 0 body.name front (others_befo
 
 distinct_others : (front : List Body) (body : Body) → AreDistinct front → AreOthers body.name front → AreDistinct (front ++ body ∷ [])
 distinct_others [] body distinct others = (refl, tt)
-distinct_others (x ∷ front) body distinct others =
-    (none_of 0 x.name (front ++ body ∷ []) (others_more x.name front body (others_of 0 x.name front distinct.0) (other_turned x.name body.name others.0)),
-      distinct_others front body distinct.1 others.1)
+distinct_others (x ∷ front) body distinct others = (
+  none_of 0 x.name (front ++ body ∷ []) (others_more x.name front body (others_of 0 x.name front distinct.0) (other_turned x.name body.name others.0)),
+  distinct_others front body distinct.1 others.1,
+)
 
 -- a body of a new name may be added
 pub distinct_more : (front : List Body) (body : Body) → AreDistinct front → body_of front body.name ≡ None → AreDistinct (front ++ body ∷ [])

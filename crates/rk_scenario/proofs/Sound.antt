@@ -1,5 +1,5 @@
 -- What the machine takes tells a scenario: each of its steps leads back from what the lines after it complete.
-use Rattle.std.proofs.Common.{◌≡◌, ℕ, ◌+◌, ◌≤◌, ◌<◌, Bool, true, false, cond, not, inl, inr, List, [], ◌∷◌, ◌++◌, length, Option, Some, None, Result, Ok, Err, codes, refl, sym, ap, subst, ◌∙◌, append_assoc, arith, length-append}
+use Rattle.std.proofs.Common.{◌≡◌, ℕ, ◌+◌, ◌≤◌, ◌<◌, true, false, cond, not, inl, inr, List, [], ◌∷◌, ◌++◌, length, Option, Some, None, Result, Ok, Err, codes, refl, sym, ap, subst, ◌∙◌, append_assoc, arith, length-append}
 use Rattle.std.specs.Prelude.{nat_lt, is_some}
 use Rattle.std.specs.Str.{bytes_eq}
 use Rattle.std.proofs.lemmas.Bool.{and_parts, ltb-true, not-false}
@@ -11,11 +11,11 @@ use Rattle.rk_model.specs.declared.scenario.Scenario.{Scenario}
 use Rattle.rk_model.specs.declared.scenario.ScenarioWhy.{ScenarioWhy}
 use Rattle.rk_model.specs.declared.scenario.ScenarioWhy.TheVariants.{Header, NotYetBuilt}
 use Rattle.rk_model.specs.Words.{is_body_name}
-use Rattle.rk_model.specs.Scenarios.{AreOps, AreBodies, AreDistinct, AreInits, IsBody, IsCluster, IsTicks, IsInit, body_of}
-use Rattle.rk_model.specs.Reading.{Phase, Start, Headed, Clustered, Timed, InBody, InInits, Draft, no_body, number_operand, op_line, init_operands, is_header, is_end, with_cluster, with_body, with_op, with_init, cluster_line, ticks_line, body_line, inner_line, init_line, at_start, at_headed, at_clustered, at_timed, at_inits, in_body, after_told}
+use Rattle.rk_model.specs.Scenarios.{AreDistinct, IsBody, IsInit, body_of}
+use Rattle.rk_model.specs.Reading.{Phase, Start, Headed, Clustered, Timed, InBody, InInits, Draft, number_operand, op_line, init_operands, is_header, is_end, with_cluster, with_body, with_op, with_init, cluster_line, ticks_line, body_line, inner_line, init_line, at_start, at_headed, at_clustered, at_timed, at_inits, in_body, after_told}
 use Rattle.rk_scenario.proofs.Spelled.{bind_ok, then_ok, else_ok, either_ok, ok_is, text_is, number_ok, op_ok, init_ok}
 use Rattle.rk_scenario.proofs.Named.{distinct_more}
-use Rattle.rk_scenario.proofs.Left.{InitsLeft, BodiesLeft, BodyLeft, TicksLeft, ClusterLeft, HeaderLeft, Completes, draft_at, ends, IsInit-kept}
+use Rattle.rk_scenario.proofs.Left.{InitsLeft, BodiesLeft, BodyLeft, Completes, draft_at, ends, IsInit-kept}
 
 -- the place of the open body among the bodies
 abbrev pub opened : Phase → ℕ
@@ -35,8 +35,18 @@ IsFresh Timed bodies name = Unit {0}
 IsFresh InBody bodies name = body_of bodies name ≡ None
 IsFresh InInits bodies name = Unit {0}
 
+-- no cluster was read so far
+abbrev pub IsAlone : Phase → List ℕ → Type 0
+IsAlone Start clusters = clusters ≡ []
+IsAlone Headed clusters = clusters ≡ []
+IsAlone Clustered clusters = Unit {0}
+IsAlone Timed clusters = Unit {0}
+IsAlone InBody clusters = Unit {0}
+IsAlone InInits clusters = Unit {0}
+
 -- what a draft keeps
 pub record Keeps (p : Phase) (b : Scenario) (o : Body) : Type 0 where
+  pub clusters : IsAlone p b.clusters
   pub bodies : length b.bodies + opened p ≤ 32
   pub distinct : AreDistinct b.bodies
   pub fresh : IsFresh p b.bodies o.name
@@ -64,7 +74,7 @@ start_sound b o words next e keeps =
     let t = then_ok (is_header words) (Ok (draft_at Headed b o)) Header next e in
     let is = header_is words t.0 in
     subst (λ (x : Draft). IsSound Start b o words x) (ok_is (draft_at Headed b o) next t.1) (record {
-      keeps = record { bodies = keeps.bodies; distinct = keeps.distinct; fresh = tt; lines = keeps.lines; inits = keeps.inits };
+      keeps = record { clusters = keeps.clusters; bodies = keeps.bodies; distinct = keeps.distinct; fresh = tt; lines = keeps.lines; inits = keeps.inits };
       back = λ told s left. record { rest = told; told_is = ap (λ (w : List (List ℕ)). w ∷ told) is; after = left };
     })
 
@@ -85,7 +95,7 @@ cluster_sound b o (count ∷ []) next e keeps =
     let one : m.0 ≡ 1 = omega (arith, number.low, number.high) in
     let is : with_cluster d 1 ≡ next = ap (λ (k : ℕ). with_cluster d k) (sym one) ∙ ok_is (with_cluster d m.0) next t.1 in
     subst (λ (x : Draft). IsSound Headed b o (codes "cluster" ∷ count ∷ []) x) is (record {
-      keeps = record { bodies = keeps.bodies; distinct = keeps.distinct; fresh = tt; lines = keeps.lines; inits = keeps.inits };
+      keeps = record { clusters = tt; bodies = keeps.bodies; distinct = keeps.distinct; fresh = tt; lines = keeps.lines; inits = keeps.inits };
       back = λ told s left. record {
         cluster = codes "cluster" ∷ count ∷ [];
         rest = told;
@@ -112,7 +122,7 @@ ticks_sound b o (ticks ∷ []) next e keeps =
     let after : ℕ → Draft = λ n. draft_at Timed (record b { horizon = n }) o in
     let n = bind_ok (number_operand 0 1000 ticks) (λ n. Ok (after n)) next e in
     subst (λ (x : Draft). IsSound Clustered b o (codes "ticks" ∷ ticks ∷ []) x) (ok_is (after n.0) next n.2) (record {
-      keeps = record { bodies = keeps.bodies; distinct = keeps.distinct; fresh = tt; lines = keeps.lines; inits = keeps.inits };
+      keeps = record { clusters = tt; bodies = keeps.bodies; distinct = keeps.distinct; fresh = tt; lines = keeps.lines; inits = keeps.inits };
       back = λ told s left. record {
         ticks = codes "ticks" ∷ ticks ∷ [];
         rest = told;
@@ -178,6 +188,7 @@ after_init p b o (first ∷ operands) next e =
 
 init_keeps : (p : Phase) (b : Scenario) (o : Body) (init : Init) → length b.inits < 64 → length b.bodies ≤ 32 → AreDistinct b.bodies → length o.lines ≤ 1000 → Keeps InInits (record b { inits = b.inits ++ init ∷ [] }) o
 init_keeps p b o init room few distinct lines = record {
+  clusters = tt;
   bodies = omega arith;
   distinct = distinct;
   fresh = tt;
@@ -245,7 +256,7 @@ body_sound b o (name ∷ []) next e keeps =
     let room : length b.bodies < 32 = ltb-true (length b.bodies) 32 r.0 in
     let named : is_body_name name ≡ true = not-false (is_body_name name) n.0 in
     subst (λ (x : Draft). IsSound Timed b o (codes "body" ∷ name ∷ []) x) (ok_is (draft_at InBody b open_one) next r.1) (record {
-      keeps = record { bodies = omega arith; distinct = keeps.distinct; fresh = unknown_from (body_of b.bodies name) k.0; lines = omega arith; inits = keeps.inits };
+      keeps = record { clusters = tt; bodies = omega arith; distinct = keeps.distinct; fresh = unknown_from (body_of b.bodies name) k.0; lines = omega arith; inits = keeps.inits };
       back = λ told s left. body_cons b name told s named left;
     })
 body_sound b o (name ∷ more ∷ words) next e keeps = absurd cc
@@ -269,6 +280,7 @@ end_is (first ∷ second ∷ words) e = absurd cc
 end_sound : (b : Scenario) (o : Body) (words : List (List ℕ)) → is_end words ≡ true → Keeps InBody b o → IsSound InBody b o words (with_body (draft_at InBody b o))
 end_sound b o words e keeps = record {
   keeps = record {
+    clusters = tt;
     bodies = omega (arith, length-append b.bodies (o ∷ []), keeps.bodies);
     distinct = distinct_more b.bodies o keeps.distinct keeps.fresh;
     fresh = tt;
@@ -294,18 +306,18 @@ inner_sound b o words next e keeps =
     let r = then_ok (nat_lt (length o.lines) 1000) (Ok (with_op d op.0)) NotYetBuilt next op.2 in
     let room : length o.lines < 1000 = ltb-true (length o.lines) 1000 r.0 in
     subst (λ (x : Draft). IsSound InBody b o words x) (ok_is (with_op d op.0) next r.1) (record {
-      keeps = record { bodies = keeps.bodies; distinct = keeps.distinct; fresh = keeps.fresh; lines = omega (arith, length-append o.lines (op.0 ∷ [])); inits = keeps.inits };
+      keeps = record { clusters = tt; bodies = keeps.bodies; distinct = keeps.distinct; fresh = keeps.fresh; lines = omega (arith, length-append o.lines (op.0 ∷ [])); inits = keeps.inits };
       back = λ told s left.
-        let join = append_assoc o.lines (op.0 ∷ []) left.more in
-        record {
-          inner = words ∷ left.inner;
-          rest = left.rest;
-          told_is = ap (λ (x : List (List (List ℕ))). words ∷ x) left.told_is;
-          more = op.0 ∷ left.more;
-          lines = (op_ok words op.0 op.1, left.lines);
-          few = subst (λ (x : List Op). length x ≤ 1000) join left.few;
-          after = subst (λ (x : List Op). BodiesLeft (record b { bodies = b.bodies ++ (record o { lines = x }) ∷ [] }) left.rest s) join left.after;
-        };
+          let join = append_assoc o.lines (op.0 ∷ []) left.more in
+          record {
+            inner = words ∷ left.inner;
+            rest = left.rest;
+            told_is = ap (λ (x : List (List (List ℕ))). words ∷ x) left.told_is;
+            more = op.0 ∷ left.more;
+            lines = (op_ok words op.0 op.1, left.lines);
+            few = subst (λ (x : List Op). length x ≤ 1000) join left.few;
+            after = subst (λ (x : List Op). BodiesLeft (record b { bodies = b.bodies ++ (record o { lines = x }) ∷ [] }) left.rest s) join left.after;
+          };
     })
 
 body_lines_sound : (b : Scenario) (o : Body) (words : List (List ℕ)) (next : Draft) → in_body (draft_at InBody b o) words ≡ Ok next → Keeps InBody b o → IsSound InBody b o words next

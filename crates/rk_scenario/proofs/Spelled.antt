@@ -1,5 +1,5 @@
 -- The words of a line are those of the grammar exactly where the machine takes them.
-use Rattle.std.proofs.Common.{◌≡◌, ℕ, ◌≤◌, ◌<◌, Bool, true, false, cond, ◌⊎◌, inl, inr, List, [], ◌∷◌, length, Option, Some, None, Result, Ok, Err, refl, sym, ap, subst, ◌∙◌, arith, codes, ◌&&◌}
+use Rattle.std.proofs.Common.{◌≡◌, ℕ, ◌≤◌, ◌<◌, Bool, true, false, cond, ◌⊎◌, inl, inr, List, [], ◌∷◌, length, Option, Some, None, Result, Ok, Err, refl, ap, subst, arith, codes, ◌&&◌}
 use Rattle.std.specs.Prelude.{nat_le, nat_lt}
 use Rattle.std.specs.Str.{bytes_eq}
 use Rattle.std.proofs.lemmas.Bool.{and_parts, leb-true, le-leb, ltb-true, lt-ltb}
@@ -173,7 +173,8 @@ init_ok s (name ∷ cluster ∷ priority ∷ body ∷ more ∷ words) init e = a
 -- the words behind the first of an init line are taken by the machine
 pub init_is : (s : Scenario) (words : List (List ℕ)) (init : Init) → IsInit s words init → (operands : List (List ℕ)) × (words ≡ codes "init" ∷ operands) × (init_operands s operands ≡ Ok init)
 unfolding init_operands
-init_is s words init h =
-    (h.name ∷ h.cluster ∷ h.priority ∷ h.body ∷ [],
-      h.words_are,
-      rw (name_is h.name init.name.bits h.name_is, cluster_is (length s.clusters) h.cluster init.cluster h.cluster_is h.cluster_below, number_is 1 255 h.priority init.prio h.priority_is, body_is s.bodies h.body init.body h.body_is) refl)
+init_is s words init h = (
+  h.name ∷ h.cluster ∷ h.priority ∷ h.body ∷ [],
+  h.words_are,
+  rw (name_is h.name init.name.bits h.name_is, cluster_is (length s.clusters) h.cluster init.cluster h.cluster_is h.cluster_below, number_is 1 255 h.priority init.prio h.priority_is, body_is s.bodies h.body init.body h.body_is) refl,
+)

@@ -1,6 +1,6 @@
 -- The verdict on a text is the scenario that it tells, and bytes that tell none have a fault.
-use Rattle.std.proofs.Common.{◌≡◌, ℕ, zero, suc, ◌+◌, ◌≤◌, ◌<◌, Bool, true, false, cond, not, ◌⊎◌, inl, inr, List, [], ◌∷◌, ◌++◌, length, map, Option, Some, None, Result, Ok, Err, codes, refl, sym, ap, subst, ◌∙◌, append_assoc, arith}
-use Rattle.std.specs.Prelude.{◌↔◌, nat_lt, filter, IfOk, IfErr}
+use Rattle.std.proofs.Common.{◌≡◌, ℕ, ◌+◌, Bool, true, false, cond, not, ◌⊎◌, inl, inr, List, [], ◌∷◌, ◌++◌, length, map, Option, Some, None, Result, Ok, Err, codes, refl, sym, ap, subst, ◌∙◌, arith}
+use Rattle.std.specs.Prelude.{nat_lt, filter, IfOk, IfErr}
 use Rattle.std.specs.List.{AllByRecursion}
 use Rattle.std.proofs.lemmas.Bool.{cases_Bool, le-ltb, ltb-false}
 use Rattle.rk_model.specs.declared.scenario.Body.{Body}
@@ -9,13 +9,13 @@ use Rattle.rk_model.specs.declared.scenario.Scenario.{Scenario}
 use Rattle.rk_model.specs.declared.scenario.ScenarioWhy.{ScenarioWhy}
 use Rattle.rk_model.specs.declared.scenario.ScenarioWhy.TheVariants.{TooLarge, NotYetBuilt}
 use Rattle.rk_model.specs.Words.{lines_of, words_of, is_plain, is_skipped}
-use Rattle.rk_model.specs.Scenarios.{AreClusters, AreBodies, AreInits, IsCluster, IsTicks, told_lines, Tells, ScenarioText, IsScenario}
-use Rattle.rk_model.specs.Reading.{Phase, Start, Headed, Clustered, Timed, InBody, InInits, Draft, start, after_told, after_words, after_line, Fault, Verdict, Reads, Faults, at_end, goes_on, verdict_from, verdict, fault_in, scenario_fault}
+use Rattle.rk_model.specs.Scenarios.{AreClusters, AreBodies, AreInits, IsCluster, IsTicks, Tells, ScenarioText, IsScenario}
+use Rattle.rk_model.specs.Reading.{Phase, Start, Headed, Clustered, Timed, InBody, InInits, Draft, start, after_told, after_words, after_line, Fault, Verdict, Reads, Faults, at_end, goes_on, verdict_from, verdict, fault_in}
 use Rattle.rk_scenario.specs.declared.errors.ScenarioError.{ScenarioError}
 use Rattle.rk_scenario.specs.declared.errors.ScenarioError.TheVariants.{Refused, Memory}
-use Rattle.rk_scenario.specs.Outcomes.{Answers, IsRefusal}
-use Rattle.rk_scenario.specs.Laws.{ReadsTexts, ReadsEachText, OneScenario, FaultlessAreTexts}
-use Rattle.rk_scenario.proofs.Left.{InitsLeft, BodiesLeft, TicksLeft, ClusterLeft, HeaderLeft, Completes, draft_at, ends}
+use Rattle.rk_scenario.specs.Outcomes.{Answers, IsRefusal, Gives}
+use Rattle.rk_scenario.specs.Laws.{ReadsTexts, ReadsEachText, OneScenario, FaultlessAreTexts, AreLinesOf}
+use Rattle.rk_scenario.proofs.Left.{Completes, ends}
 use Rattle.rk_scenario.proofs.Sound.{Keeps, step_sound, end_sound_at}
 use Rattle.rk_scenario.proofs.Complete.{step_taken, end_taken}
 
@@ -77,9 +77,9 @@ goes_on_reads (Ok next) n rest s e = (next, refl, e)
 goes_on_reads (Err why) n rest s e = absurd cc
 
 -- a line is skipped, or its words are a step
-record IsLine (d : Draft) (line : List ℕ) (next : Draft) : Type 0 where
-  plain : is_plain line ≡ true
-  step : ((is_skipped (words_of line) ≡ true) × (d ≡ next)) ⊎ ((is_skipped (words_of line) ≡ false) × (after_told d.phase d (words_of line) ≡ Ok next))
+pub record IsLine (d : Draft) (line : List ℕ) (next : Draft) : Type 0 where
+  pub plain : is_plain line ≡ true
+  pub step : ((is_skipped (words_of line) ≡ true) × (d ≡ next)) ⊎ ((is_skipped (words_of line) ≡ false) × (after_told d.phase d (words_of line) ≡ Ok next))
 
 words_step : (skipped : Bool) (d next : Draft) (told : Result Draft ScenarioWhy) → cond skipped (Ok d) told ≡ Ok next → ((skipped ≡ true) × (d ≡ next)) ⊎ ((skipped ≡ false) × (told ≡ Ok next))
 words_step true d next told e = inl (refl, cc)
@@ -89,7 +89,7 @@ line_step : (plain : Bool) (words : Result Draft ScenarioWhy) (next : Draft) →
 line_step true words next e = (refl, e)
 line_step false words next e = absurd cc
 
-line_is : (d : Draft) (line : List ℕ) (next : Draft) → after_line d line ≡ Ok next → IsLine d line next
+pub line_is : (d : Draft) (line : List ℕ) (next : Draft) → after_line d line ≡ Ok next → IsLine d line next
 unfolding after_line after_words
 line_is d line next e =
     let l = line_step (is_plain line) (after_words d (words_of line)) next e in
@@ -107,11 +107,13 @@ lines_read [] d n s e = (tt, at_end_reads d.phase d.scenario s n e)
 lines_read (line ∷ lines) d n s e =
     let g = goes_on_reads (after_line d line) n (λ next. verdict_from next (n + 1) lines) s e in
     let l = line_is d line g.0 g.1 in
-    let rest = lines_read lines g.0 (n + 1) s g.2 in
-    ((l.plain, rest.0), elim l.step [
-      | inl t ↦ ap (λ (told : List (List (List ℕ))). read_from d told) (skipped_told line lines t.0) ∙ ap (λ (x : Draft). read_from x (told_of lines)) t.1 ∙ rest.1
-      | inr t ↦ ap (λ (told : List (List (List ℕ))). read_from d told) (kept_told line lines t.0) ∙ ap (λ (r : Result Draft ScenarioWhy). read_on r (λ next. read_from next (told_of lines))) t.1 ∙ rest.1
-    ])
+    let rest = lines_read lines g.0 (n + 1) s g.2 in (
+      (l.plain, rest.0),
+      elim l.step [
+        | inl t ↦ ap (λ (told : List (List (List ℕ))). read_from d told) (skipped_told line lines t.0) ∙ ap (λ (x : Draft). read_from x (told_of lines)) t.1 ∙ rest.1
+        | inr t ↦ ap (λ (told : List (List (List ℕ))). read_from d told) (kept_told line lines t.0) ∙ ap (λ (r : Result Draft ScenarioWhy). read_on r (λ next. read_from next (told_of lines))) t.1 ∙ rest.1
+      ],
+    )
 
 skipped_line : (d : Draft) (line : List ℕ) → is_plain line ≡ true → is_skipped (words_of line) ≡ true → after_line d line ≡ Ok d
 unfolding after_line after_words
@@ -137,8 +139,8 @@ read_lines_of (line ∷ lines) d n s plain e =
 
 -- ---- what is told
 
-start_keeps : Keeps start.phase start.scenario start.body
-start_keeps = record { bodies = omega arith; distinct = tt; fresh = tt; lines = omega arith; inits = omega arith }
+pub start_keeps : Keeps start.phase start.scenario start.body
+start_keeps = record { clusters = refl; bodies = omega arith; distinct = tt; fresh = tt; lines = omega arith; inits = omega arith }
 
 -- what completes the draft before the first line tells the scenario
 tells_of : (told : List (List (List ℕ))) (s : Scenario) → Completes start.phase start.scenario start.body told s → Tells told s
@@ -213,6 +215,16 @@ completes_of told s t =
       };
     }
 
+-- lines that are read are those of a text of the scenario
+pub lines_tell : (lines : List (List ℕ)) (s : Scenario) → verdict_from start 1 lines ≡ Reads s → AreLinesOf lines s
+lines_tell lines s e =
+    let read = lines_read lines start 1 s e in
+    record { allowed = read.0; told = tells_of (told_of lines) s (read_sound (told_of lines) start s read.1 start_keeps) }
+
+-- the lines of a text of the scenario are read
+pub lines_told : (lines : List (List ℕ)) (s : Scenario) → AreLinesOf lines s → verdict_from start 1 lines ≡ Reads s
+lines_told lines s are = read_lines_of lines start 1 s are.allowed (read_complete (told_of lines) start s (completes_of (told_of lines) s are.told))
+
 -- ---- the laws
 
 size_reads : (large : Bool) (fault : Fault) (v : Verdict) (s : Scenario) → cond large (Faults fault) v ≡ Reads s → (large ≡ false) × (v ≡ Reads s)
@@ -222,18 +234,13 @@ size_reads false fault v s e = (refl, e)
 pub reads_texts : ReadsTexts
 reads_texts bytes s e =
     let size = size_reads (nat_lt 1048576 (length bytes)) (record { line = 0; why = TooLarge }) (verdict_from start 1 (lines_of bytes)) s e in
-    let lines = lines_read (lines_of bytes) start 1 s size.1 in
-    record {
-      size = ltb-false 1048576 (length bytes) size.0;
-      allowed = lines.0;
-      lines = tells_of (told_lines bytes) s (read_sound (told_lines bytes) start s lines.1 start_keeps);
-    }
+    let lines = lines_tell (lines_of bytes) s size.1 in
+    record { size = ltb-false 1048576 (length bytes) size.0; allowed = lines.allowed; lines = lines.told }
 
 pub reads_each_text : ReadsEachText
 reads_each_text bytes s text =
     let small : nat_lt 1048576 (length bytes) ≡ false = le-ltb 1048576 (length bytes) text.size in
-    let lines = read_lines_of (lines_of bytes) start 1 s text.allowed (read_complete (told_lines bytes) start s (completes_of (told_lines bytes) s text.lines)) in
-    rw small lines
+    rw small (lines_told (lines_of bytes) s (record { allowed = text.allowed; told = text.lines }))
 
 pub one_scenario : OneScenario
 one_scenario bytes s t text other =
@@ -246,15 +253,21 @@ none_reads (Reads s) e = (s, refl)
 none_reads (Faults fault) e = absurd cc
 
 pub faultless_are_texts : FaultlessAreTexts
-faultless_are_texts bytes =
-    (λ e. let r = none_reads (verdict bytes) e in (r.0, reads_texts bytes r.0 r.1),
-      λ text. ap fault_in (reads_each_text bytes text.0 text.1))
+faultless_are_texts bytes = (
+  λ e. let r = none_reads (verdict bytes) e in (r.0, reads_texts bytes r.0 r.1),
+  λ text. ap fault_in (reads_each_text bytes text.0 text.1),
+)
 
 -- ---- what an answer says
 
 pub text_from_answer : (bytes : List ℕ) (r : Result Scenario ScenarioError) → Answers r (verdict bytes) → IfOk r (ScenarioText bytes)
 text_from_answer bytes (Ok s) answer = reads_texts bytes s answer
 text_from_answer bytes (Err e) answer = tt
+
+pub only_from_answer : (bytes : List ℕ) (r : Result Scenario ScenarioError) → Answers r (verdict bytes) → (s : Scenario) → ScenarioText bytes s → Gives r s
+only_from_answer bytes (Ok t) answer s text = let read = reads_each_text bytes s text in cc
+only_from_answer bytes (Err (Refused line why)) answer s text = let read = reads_each_text bytes s text in cc
+only_from_answer bytes (Err Memory) answer s text = tt
 
 pub known_from_answer : (bytes : List ℕ) (r : Result Scenario ScenarioError) → Answers r (verdict bytes) → IfOk r IsScenario
 known_from_answer bytes (Ok s) answer = record { bytes = bytes; text = reads_texts bytes s answer }

@@ -1,5 +1,5 @@
 -- What has been read so far, as the code has it, and what taking a line does to it.
-use Rattle.std.specs.Prelude.{ℕ, ◌≡◌, ◌≤◌, List, Result, Ok, Err, length}
+use Rattle.std.specs.Prelude.{ℕ, ◌≡◌, ◌≤◌, Result, Ok, Err, length}
 use Rattle.rk_model.specs.declared.scenario.ScenarioWhy.{ScenarioWhy}
 use Rattle.rk_model.specs.Reading as reading
 use Rattle.rk_scenario.specs.declared.errors.LineError.{LineError}

@@ -1,8 +1,10 @@
 -- What holds of texts and their scenarios.
-use Rattle.std.specs.Prelude.{ℕ, ◌≡◌, ◌↔◌, List, None}
+use Rattle.std.specs.Prelude.{ℕ, ◌+◌, ◌-◌, ◌<◌, ◌≤◌, ◌≡◌, ◌↔◌, ◌⊎◌, true, not, List, ◌++◌, length, map, filter, take, Some, None}
+use Rattle.std.specs.List.{AllByRecursion}
 use Rattle.rk_model.specs.declared.scenario.Scenario.{Scenario}
-use Rattle.rk_model.specs.Scenarios.{ScenarioText}
-use Rattle.rk_model.specs.Reading.{Reads, verdict, scenario_fault}
+use Rattle.rk_model.specs.Words.{lines_of, words_of, is_plain, is_skipped}
+use Rattle.rk_model.specs.Scenarios.{Tells, ScenarioText}
+use Rattle.rk_model.specs.Reading.{Fault, Reads, verdict, scenario_fault}
 
 -- What the machine reads from bytes is a scenario of which they are a text.
 abbrev pub ReadsTexts : Type 0
@@ -19,3 +21,23 @@ OneScenario = (bytes : List ℕ) (s t : Scenario) → ScenarioText bytes s → S
 -- Bytes have no fault exactly where they are a text of some scenario.
 abbrev pub FaultlessAreTexts : Type 0
 FaultlessAreTexts = (bytes : List ℕ) → (scenario_fault bytes ≡ None) ↔ ((s : Scenario) × ScenarioText bytes s)
+
+-- The lines are those of a text of the scenario, of whatever size.
+pub record AreLinesOf (lines : List (List ℕ)) (s : Scenario) : Type 0 where
+  pub allowed : AllByRecursion (λ line. is_plain line ≡ true) lines
+  pub told : Tells (filter (λ words. not (is_skipped words)) (map words_of lines)) s
+
+-- Lines begin those of a text of some scenario, of whatever size.
+abbrev pub Begin : List (List ℕ) → Type 0
+Begin lines = (more : List (List ℕ)) × (s : Scenario) × AreLinesOf (lines ++ more) s
+
+-- This is the number of the first line at which no text goes on: the lines before it begin a text, and with it they begin none. Where the lines are fewer, they are no whole text, and it is the number behind their last.
+pub record IsFirstStop (lines : List (List ℕ)) (line : ℕ) : Type 0 where
+  pub before : Begin (take (line - 1) lines)
+  pub stops : line ≤ length lines → Begin (take line lines) → ⊥
+  pub ends : length lines < line → (line ≡ length lines + 1) × ((s : Scenario) → AreLinesOf lines s → ⊥)
+
+-- A fault is that of the whole text where it is too large, and else it is at the first line at which no text goes on.
+abbrev pub FaultsAtFirstStop : Type 0
+FaultsAtFirstStop = (bytes : List ℕ) (fault : Fault) → scenario_fault bytes ≡ Some fault
+    → ((1048576 < length bytes) × (fault.line ≡ 0)) ⊎ ((length bytes ≤ 1048576) × IsFirstStop (lines_of bytes) fault.line)

@@ -23,3 +23,9 @@ Advances (Err Memory) old line n new = Unit {0}
 abbrev pub IsRefusal : List ℕ → ScenarioError → Type 0
 IsRefusal bytes (Refused line why) = scenario_fault bytes ≡ Some (record { line = line; why = why })
 IsRefusal bytes Memory = Unit {0}
+
+-- The scenario was read, or memory was wanting.
+abbrev pub Gives : Result Scenario ScenarioError → Scenario → Type 0
+Gives (Ok t) s = t ≡ s
+Gives (Err (Refused line why)) s = ⊥
+Gives (Err Memory) s = Unit {0}

@@ -8,6 +8,8 @@ mod lines;
 mod operands;
 mod ops;
 mod read;
+#[cfg(test)]
+mod tests;
 mod words;
 
 pub use errors::ScenarioError;

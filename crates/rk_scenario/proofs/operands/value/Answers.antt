@@ -1,4 +1,4 @@
-use Rattle.std.proofs.Common.{◌≡◌, ◌≤◌, ◌<◌, ◌+◌, ◌*◌, ◌∷◌, ℕ, suc, Some, length, get_or, drop, min, drop-cons, add-one, arith, ◌∙◌}
+use Rattle.std.proofs.Common.{◌≡◌, ◌+◌, ◌∷◌, Some, get_or, drop, drop-cons, add-one, arith, ◌∙◌}
 use Rattle.rk_model.specs.Words.{digit_below, digit_value}
 use Rattle.rk_scenario.proofs.Numbers.{capped_more}
 use Rattle.rk_scenario.proofs.operands.value.Goals as goal

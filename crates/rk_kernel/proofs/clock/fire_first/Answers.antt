@@ -1,0 +1,50 @@
+use Rattle.std.proofs.Common.{◌≡◌, length, arith, ap, sym, ◌∙◌, subst, refl, List, [], rules}
+use Rattle.std.proofs.lemmas.List.{length-map, length-set}
+use Rattle.rk_model.specs.State.{Plain}
+use Rattle.rk_model.specs.Ticks.{expire}
+use Rattle.rk_model.specs.Timers.{thread_of}
+use Rattle.rk_kernel.specs.Noted.{IsNoted}
+use Rattle.rk_kernel.specs.Firing.{due_now}
+use Rattle.rk_kernel.specs.Pieces.{plain_of, cluster_of}
+use Rattle.rk_kernel.specs.Sound.{IsSound, IsGentle}
+use Rattle.rk_kernel.proofs.Firings.{unchanged, fires_none, fires_some, head_some, rest_of, expired, expire_gentle}
+use Rattle.rk_kernel.proofs.Ready.{ready, settled_next, settled_sound, settled_count, noted_length}
+use Rattle.rk_kernel.proofs.clock.fire_first.Goals as goal
+
+pub settle_core-requires : goal.settle_core-requires
+settle_core-requires c =
+    let k = plain_of c.args.core.now in
+    let x = c.in-Some.timer in
+    let g = expire_gentle k c.args.cluster (rest_of (due_now k c.args.cluster)) x c.requires.sound (omega (arith, c.requires.cluster, length-map c.args.core.now.clusters cluster_of)) (head_some (due_now k c.args.cluster) x c.in-Some.ensures.first) in
+    let e = expired k (plain_of c.take_due_of.new.core) (plain_of c.finish_wait.new.core) c.args.cluster c.thread_of_timer.result x c.in-Some.ensures.taken c.thread_of_timer.ensures c.finish_wait.ensures in
+    let r = ready k _ c.finish_wait.new.core c.args.scratch.now.before c.clear.new.self c.requires.sound g e c.requires.noted.before in
+    record { few = r.few; size = c.requires.noted.now ∙ sym r.places; clusters = r.clusters; room = r.room }
+
+pub returns-in-None : goal.returns-in-None
+returns-in-None c =
+    let k = plain_of c.args.core.now in
+    let same = unchanged k (plain_of c.take_due_of.new.core) c.args.cluster c.in-None.ensures.first c.in-None.ensures.taken in
+    record {
+      fires = fires_none k (plain_of c.take_due_of.new.core) c.args.cluster _ c.in-None.ensures.first c.in-None.ensures.taken refl;
+      clusters = sym (length-map c.take_due_of.new.core.clusters cluster_of) ∙ ap (λ (n : Plain). length n.clusters) same ∙ length-map c.args.core.now.clusters cluster_of;
+      sound = subst IsSound (sym same) c.requires.sound;
+      noted = subst (λ (n : Plain). IsNoted n c.args.scratch.now) (sym same) c.requires.noted;
+    }
+
+pub returns-in-Some : goal.returns-in-Some
+returns-in-Some c =
+    let k = plain_of c.args.core.now in
+    let x = c.in-Some.timer in
+    let stood = c.args.scratch.now.before in
+    let last = c.clear.new.self in
+    let before = c.finish_wait.new.core in
+    let after = c.settle_core.new.core in
+    let next = expire k c.args.cluster (thread_of x.who) in
+    let g = expire_gentle k c.args.cluster (rest_of (due_now k c.args.cluster)) x c.requires.sound (omega (arith, c.requires.cluster, length-map c.args.core.now.clusters cluster_of)) (head_some (due_now k c.args.cluster) x c.in-Some.ensures.first) in
+    let e = expired k (plain_of c.take_due_of.new.core) (plain_of before) c.args.cluster c.thread_of_timer.result x c.in-Some.ensures.taken c.thread_of_timer.ensures c.finish_wait.ensures in
+    record {
+      fires = fires_some k (plain_of after) c.args.cluster _ x c.in-Some.ensures.first (settled_next k next before after stood last [] e c.requires.noted.before c.clear.ensures c.settle_core.ensures.core) refl;
+      clusters = settled_count k next before after stood last g e c.settle_core.ensures.core ∙ length-map c.args.core.now.clusters cluster_of;
+      sound = settled_sound k next before after stood last c.requires.sound g e c.requires.noted.before c.settle_core.ensures.core;
+      noted = record { before = c.settle_core.ensures.before; now = c.settle_core.ensures.size ∙ noted_length k stood c.requires.sound c.requires.noted.before; threads = ap length c.settle_core.ensures.threads ∙ c.requires.noted.threads };
+    }

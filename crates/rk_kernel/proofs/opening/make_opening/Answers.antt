@@ -1,0 +1,33 @@
+use Rattle.std.proofs.Common.{◌≡◌, List, [], length, ap, sym, ◌∙◌}
+use Rattle.rk_model.specs.declared.state.Thread.{Thread}
+use Rattle.rk_model.specs.State.{Plain}
+use Rattle.rk_model.specs.Priorities.{standings}
+use Rattle.rk_model.specs.Histories.{vacant, started}
+use Rattle.rk_kernel.specs.Pieces.{plain_of}
+use Rattle.rk_kernel.proofs.Openings.{sound_vacant, gentle_started}
+use Rattle.rk_kernel.proofs.Ready.{ready, settled_next, settled_sound, noted_length}
+use Rattle.rk_kernel.proofs.opening.make_opening.Goals as goal
+
+pub settle_core-requires : goal.settle_core-requires
+settle_core-requires c =
+    let s = c.args.scenario.now in
+    let is = ap (λ (k : Plain). record k { threads = c.start_all.new.threads }) c.in_ok-core.ensures ∙ ap (λ (ts : List Thread). record (vacant s) { threads = ts }) c.start_all.ensures in
+    let stands = c.note_all.ensures ∙ ap standings c.in_ok-core.ensures in
+    let r = ready (vacant s) (started s) (record c.in_ok-core.core { threads = c.start_all.new.threads }) c.note_all.new.out c.args.scratch.now.last (sound_vacant s c.requires.limits) (gentle_started s c.requires.limits) is stands in
+    record { few = r.few; size = c.requires.now ∙ sym r.places; clusters = r.clusters; room = r.room }
+
+pub returns : goal.returns
+returns c =
+    let s = c.args.scenario.now in
+    let before = record c.in_ok-core.core { threads = c.start_all.new.threads } in
+    let after = c.settle_core.new.core in
+    let stood = c.note_all.new.out in
+    let last = c.args.scratch.now.last in
+    let is = ap (λ (k : Plain). record k { threads = c.start_all.new.threads }) c.in_ok-core.ensures ∙ ap (λ (ts : List Thread). record (vacant s) { threads = ts }) c.start_all.ensures in
+    let stands = c.note_all.ensures ∙ ap standings c.in_ok-core.ensures in
+    let sound = sound_vacant s c.requires.limits in
+    record {
+      opening = settled_next (vacant s) (started s) before after stood last [] is stands c.requires.last c.settle_core.ensures.core;
+      sound = settled_sound (vacant s) (started s) before after stood last sound (gentle_started s c.requires.limits) is stands c.settle_core.ensures.core;
+      noted = record { before = c.settle_core.ensures.before; now = c.settle_core.ensures.size ∙ noted_length (vacant s) stood sound stands; threads = ap length c.settle_core.ensures.threads ∙ c.requires.threads };
+    }

@@ -1,0 +1,187 @@
+use crate::ScenarioError;
+use crate::read::read_scenario;
+use rk_model::{Init, Name, Op, Prio, Scenario, ScenarioWhy};
+use std::alloc::Global;
+use std::test::Fail;
+
+const HEADER: ScenarioWhy = ScenarioWhy::Header;
+
+const NOT_YET: ScenarioWhy = ScenarioWhy::NotYetBuilt;
+
+/// The front of a text that stands before its bodies: three lines.
+const FRONT: &str = "rtems 1\ncluster 1\nticks 0\n";
+
+/// How a text is refused, if it is.
+fn refusal(alloc: Global, text: &[u8]) -> Option<ScenarioError> {
+    match read_scenario(alloc, text) {
+        Ok(_) => None,
+        Err(error) => Some(error),
+    }
+}
+
+/// `head`, so many times `line`, and `tail`.
+fn repeated(alloc: Global, head: &str, line: &str, count: u32, tail: &str) -> Result<String, Fail> {
+    let mut text = String::from_str(alloc, head)?;
+    for _ in 0..count {
+        text.push_str(line)?;
+    }
+    text.push_str(tail)?;
+    Ok(text)
+}
+
+#[test]
+fn refuses_lines(rt: HostRuntime) {
+    let rows = [
+        ("", 1, HEADER),
+        ("# none\n \n", 3, HEADER),
+        ("rtems 2\n", 1, HEADER),
+        ("rtems 1 1\n", 1, HEADER),
+        ("\trtems 1\n", 1, NOT_YET),
+        ("# \u{7f}\nrtems 1\n", 1, NOT_YET),
+        ("rtems 1\ncluster 2\nticks 0\n", 2, NOT_YET),
+        ("rtems 1\ncluster 1\ncluster 1\nticks 0\n", 3, NOT_YET),
+        ("rtems 1\n\n# none\ncluster 1\nticks 1001\n", 5, NOT_YET),
+        ("rtems 1\ncluster 1\nticks 0\nlimit 5\n", 4, NOT_YET),
+        ("rtems 1\ncluster 1\n# none", 4, NOT_YET),
+    ];
+    for (text, line, why) in rows {
+        let want = Some(ScenarioError::Refused { line, why });
+        assert_eq!(rt; refusal(rt.alloc(), text.as_bytes()), want, "{text}");
+    }
+}
+
+#[test]
+fn refuses_bodies_and_inits(rt: HostRuntime) -> Result<(), Fail> {
+    let rows = [
+        ("body b\nwork 1", 6),
+        ("body b\nwork 0\nend\n", 5),
+        ("body b\nwork 01\nend\n", 5),
+        ("body b\nwork 1000001\nend\n", 5),
+        ("body b\nwork 1 1\nend\n", 5),
+        ("body b\nend x\n", 5),
+        ("body b\ntask.wake_after 4294967296\nend\n", 5),
+        ("body b\ntask.wake_after 99999999999999999999\nend\n", 5),
+        ("body b\ntask.wake_after 0x0000001\nend\n", 5),
+        ("body b\ntask.wake_after 0x0000000A\nend\n", 5),
+        ("body B\nend\n", 4),
+        ("body 1b\nend\n", 4),
+        ("body bbbbbbbbbbbbbbbbb\nend\n", 4),
+        ("body b\nend\nbody b\nend\n", 6),
+        ("body b\nend\ninit AAAA 0 1 b\nbody c\nend\n", 7),
+        ("body b\nend\ninit AAAA 0 1 c\n", 6),
+        ("body b\nend\ninit AAA 0 1 b\n", 6),
+        ("body b\nend\ninit AA-A 0 1 b\n", 6),
+        ("body b\nend\ninit AAAA 1 1 b\n", 6),
+        ("body b\nend\ninit AAAA 0 0 b\n", 6),
+        ("body b\nend\ninit AAAA 0 256 b\n", 6),
+        ("body b\nend\ninit AAAA 0 1\n", 6),
+    ];
+    for (tail, line) in rows {
+        let text = repeated(rt.alloc(), FRONT, tail, 1, "")?;
+        let want = Some(ScenarioError::Refused { line, why: NOT_YET });
+        assert_eq!(rt; refusal(rt.alloc(), text.as_bytes()), want, "{tail}");
+    }
+    Ok(())
+}
+
+#[test]
+fn counts_lines_and_bytes(rt: HostRuntime) -> Result<(), Fail> {
+    let alloc = rt.alloc();
+    let open = repeated(alloc, FRONT, "body b\n", 1, "")?;
+    let whole = repeated(alloc, open.as_str(), "end\n", 1, "")?;
+    let rows = [
+        (open.as_str(), "work 1\n", 1000, "end\n", None),
+        (open.as_str(), "work 1\n", 1001, "end\n", Some(1005)),
+        (whole.as_str(), "init AAAA 0 1 b\n", 64, "", None),
+        (whole.as_str(), "init AAAA 0 1 b\n", 65, "", Some(70)),
+        (FRONT, "#", 1_048_550, "", None),
+        (FRONT, "#", 1_048_551, "", Some(0)),
+    ];
+    for (head, line, count, tail, refused_at) in rows {
+        let text = repeated(alloc, head, line, count, tail)?;
+        let want = refused_at.map(|line| ScenarioError::Refused {
+            line,
+            why: if line == 0 {
+                ScenarioWhy::TooLarge
+            } else {
+                NOT_YET
+            },
+        });
+        assert_eq!(rt;
+            refusal(alloc, text.as_bytes()),
+            want,
+            "{count} times {line}"
+        );
+    }
+    Ok(())
+}
+
+#[test]
+fn counts_bodies(rt: HostRuntime) -> Result<(), Fail> {
+    let alloc = rt.alloc();
+    let mut text = String::from_str(alloc, FRONT)?;
+    for number in 0..32u32 {
+        text.push_str("body b")?;
+        text.push_str(number.to_string(alloc)?.as_str())?;
+        text.push_str("\nend\n")?;
+    }
+    assert_eq!(rt; refusal(alloc, text.as_bytes()), None);
+    text.push_str("body c\nend\n")?;
+    let want = Some(ScenarioError::Refused {
+        line: 68,
+        why: NOT_YET,
+    });
+    assert_eq!(rt; refusal(alloc, text.as_bytes()), want);
+    Ok(())
+}
+
+/// A text with everything that a text may have.
+const WHOLE: &str = "# A scenario.\n\nrtems 1\n  cluster  0x00000001 \nticks 1000\nbody first\n\
+                     work 1000000\n\n# between\ntask.wake_after 0xffffffff\nend\nbody second_1\n\
+                     \x20 work   7\nend\ninit T_1a 0 255 second_1\n\
+                     init aaaa 0 0x00000001 first";
+
+/// The scenario of that text.
+fn whole(alloc: Global) -> Result<Scenario, Fail> {
+    let scenario = read_scenario(alloc, WHOLE.as_bytes())
+        .ok()
+        .ok_or("it is a text")?;
+    Ok(scenario)
+}
+
+#[test]
+fn reads_numbers_and_bodies(rt: HostRuntime) -> Result<(), Fail> {
+    let scenario = whole(rt.alloc())?;
+    assert_eq!(rt; scenario.clusters.as_slice(), [1].as_slice());
+    assert_eq!(rt; (scenario.horizon, scenario.limit), (1000, 200_000));
+    assert_eq!(rt; scenario.bodies.len(), 2);
+    let first = scenario.bodies.get(0).ok_or("a body")?;
+    assert_eq!(rt; first.name.as_slice(), b"first".as_slice());
+    let lines = [Op::Work(1_000_000), Op::TaskWakeAfter(4_294_967_295)];
+    assert_eq!(rt; first.lines.as_slice(), lines.as_slice());
+    let second = scenario.bodies.get(1).ok_or("a body")?;
+    assert_eq!(rt; second.name.as_slice(), b"second_1".as_slice());
+    assert_eq!(rt; second.lines.as_slice(), [Op::Work(7)].as_slice());
+    Ok(())
+}
+
+#[test]
+fn reads_inits(rt: HostRuntime) -> Result<(), Fail> {
+    let scenario = whole(rt.alloc())?;
+    let inits = [
+        Init {
+            name: Name { bits: 0x545f_3161 },
+            cluster: 0,
+            prio: Prio::new(255),
+            body: 1,
+        },
+        Init {
+            name: Name { bits: 0x6161_6161 },
+            cluster: 0,
+            prio: Prio::new(1),
+            body: 0,
+        },
+    ];
+    assert_eq!(rt; scenario.inits.as_slice(), inits.as_slice());
+    Ok(())
+}
