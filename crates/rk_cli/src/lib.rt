@@ -9,4 +9,5 @@ mod status;
 mod tests;
 mod top;
 
+pub use schedule::write_schedule;
 pub use top::plain_top;

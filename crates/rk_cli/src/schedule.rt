@@ -249,7 +249,11 @@ pub(crate) fn ends_with_end(entries: &[Entry]) -> bool
 
 /// The schedule of a history: the header, the lines of its entries in their order, and the last
 /// line, which says whether the history ends with the end of the run or was cut.
-pub(crate) fn write_schedule(
+///
+/// # Errors
+///
+/// `NoMemory` where memory was wanted and not there.
+pub fn write_schedule(
     alloc: Global,
     scenario: &Scenario,
     entries: &[Entry],

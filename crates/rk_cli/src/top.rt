@@ -105,6 +105,7 @@ pub fn plain_top<S: Source, K: Sink>(
         → AppendsPrefix (K.taken_so_far sink.old) (K.taken_so_far sink.new) usage_text }
 
     // What each status of `plan` says.
+    ensures planning { IsOneOf (0 ∷ 2 ∷ 4 ∷ 5 ∷ []) result → IsPlan string_bytes words.now }
     ensures planned { result ≡ 0 → HasPlan (S.left source.old) (S.left source.new)
         (K.taken_so_far sink.old) (K.taken_so_far sink.new) }
     ensures limited { result ≡ 4 → HasCutPlan (S.left source.old) (S.left source.new)
