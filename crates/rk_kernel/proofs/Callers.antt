@@ -50,7 +50,7 @@ seated_stands k p t sound h =
     let e : 0 < cond (stands k s.0 t) (times t r) 0 = rw (← times-filter (stands k s.0) t r) s.1 in
     (s.0, passes (stands k s.0 t) (times t r) e)
 
-stands_eligible : (k : Plain) (c t : ℕ) → stands k c t ≡ true → is_eligible k t ≡ true
+pub stands_eligible : (k : Plain) (c t : ℕ) → stands k c t ≡ true → is_eligible k t ≡ true
 unfolding stands
 stands_eligible k c t h = and_back ((thread_at k t).home == c) (is_eligible k t) h
 

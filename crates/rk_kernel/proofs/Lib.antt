@@ -21,3 +21,5 @@ pub mod Passing
 pub mod Firings
 pub mod Runs
 pub mod Sorting
+pub mod Reached
+pub mod Belonging

@@ -36,7 +36,7 @@ no_place : (n t : ℕ) → nth no_thread (places n []) t ≡ no_thread
 no_place n zero = refl
 no_place n (suc i) = no_place_from n i
 
-never_eligible : (k : Plain) (t : ℕ) → thread_at k t ≡ no_thread → is_eligible k t ≡ false
+pub never_eligible : (k : Plain) (t : ℕ) → thread_at k t ≡ no_thread → is_eligible k t ≡ false
 unfolding is_eligible
 never_eligible k t none = rw none refl
 

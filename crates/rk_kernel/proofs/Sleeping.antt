@@ -63,7 +63,7 @@ outside_range : (t a n : ℕ) → t < a → times t (range_with_len a n) ≡ 0
 outside_range t a zero low = refl
 outside_range t a (suc n) low = grind (arith, nat_tests, outside_range t (a + 1) n)
 
-once_in_range : (t a n : ℕ) → a ≤ t → t < a + n → times t (range_with_len a n) ≡ 1
+pub once_in_range : (t a n : ℕ) → a ≤ t → t < a + n → times t (range_with_len a n) ≡ 1
 once_in_range t a zero low high = absurd (omega arith)
 once_in_range t a (suc n) low high = grind (arith, nat_tests, once_in_range t (a + 1) n, outside_range t (a + 1) n)
 

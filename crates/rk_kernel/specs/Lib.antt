@@ -6,3 +6,4 @@ pub mod Noted
 pub mod Does
 pub mod Step
 pub mod Urgency
+pub mod Laws

@@ -5,6 +5,7 @@ mod clock;
 mod core_state;
 mod directives;
 mod kernel;
+pub mod laws;
 mod line;
 mod opening;
 mod places;
