@@ -41,11 +41,11 @@ ranked_has key n front [] t h = cc
 ranked_has key n front (u ∷ back) t h =
     found_or u t back (ranked_from key n (front ++ u ∷ []) back) (rank key front u back == n) h (ranked_has key n (front ++ u ∷ []) back t)
 
-has-append : (xs ys : List ℕ) (t : ℕ) → has (xs ++ ys) t ≡ (has xs t || has ys t)
+pub has-append : (xs ys : List ℕ) (t : ℕ) → has (xs ++ ys) t ≡ (has xs t || has ys t)
 has-append [] ys t = refl
 has-append (x ∷ xs) ys t = grind (arith, nat_tests, has-append xs ys t)
 
-option_has : (o : Option ℕ) (t : ℕ) → has (option_to_list o) t ≡ true → o ≡ Some t
+pub option_has : (o : Option ℕ) (t : ℕ) → has (option_to_list o) t ≡ true → o ≡ Some t
 option_has None t h = absurd (false≢true h)
 option_has (Some u) t h = grind (arith, nat_tests, h)
 

@@ -9,7 +9,7 @@ pub times-append : (t : ℕ) (xs ys : List ℕ) → times t (xs ++ ys) ≡ times
 times-append t [] ys = omega arith
 times-append t (x ∷ xs) ys = omega (arith, times-append t xs ys)
 
-same_either_way : (b : Bool) (n : ℕ) → n ≡ cond b n n
+pub same_either_way : (b : Bool) (n : ℕ) → n ≡ cond b n n
 same_either_way true n = refl
 same_either_way false n = refl
 

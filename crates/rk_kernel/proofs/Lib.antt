@@ -23,3 +23,6 @@ pub mod Runs
 pub mod Sorting
 pub mod Reached
 pub mod Belonging
+pub mod Seats
+pub mod Ranking
+pub mod Manning

@@ -62,7 +62,7 @@ pub length-standings : (k : Plain) (a n : ℕ) → length (standings_from k a n)
 length-standings k a zero = refl
 length-standings k a (suc n) = omega (arith, length-standings k (a + 1) n)
 
-standing_at : (k : Plain) (a n i : ℕ) → i < n → get_or (standings_from k a n) i no_standing ≡ standing k (a + i)
+pub standing_at : (k : Plain) (a n i : ℕ) → i < n → get_or (standings_from k a n) i no_standing ≡ standing k (a + i)
 standing_at k a zero i h = absurd (omega arith)
 standing_at k a (suc n) zero h = let e : a + 0 ≡ a = omega arith in rw e refl
 standing_at k a (suc n) (suc i) h = let e : a + suc i ≡ a + 1 + i = omega arith in rw e (standing_at k (a + 1) n i (omega arith))

@@ -33,7 +33,7 @@ charge_steady f k t [] i steady = refl
 charge_steady f k t (x ∷ xs) zero steady = by_test (λ (y : Thread). f y ≡ f x) (runs_somewhere k t) _ _ (λ _. charged_steady f k.scenario x steady) (λ _. refl)
 charge_steady f k t (x ∷ xs) (suc i) steady = charge_steady f k (t + 1) xs i steady
 
-passed_steady : {Y : Type 0} (f : Thread → Y) (k : Plain) (t : ℕ) → ((x : Thread) (line left computed : ℕ) → f (record x { line = line; left = left; computed = computed }) ≡ f x) → f (thread_at (pass k) t) ≡ f (thread_at k t)
+pub passed_steady : {Y : Type 0} (f : Thread → Y) (k : Plain) (t : ℕ) → ((x : Thread) (line left computed : ℕ) → f (record x { line = line; left = left; computed = computed }) ≡ f x) → f (thread_at (pass k) t) ≡ f (thread_at k t)
 passed_steady f k zero steady = refl
 passed_steady f k (suc i) steady = charge_steady f k 1 k.threads i steady
 

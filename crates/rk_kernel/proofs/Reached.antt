@@ -83,11 +83,15 @@ both_act P kept k q both = by P kept k q (eqb q 8) both where
   by P kept k q true both = of_clock P kept k (least k) both
   by P kept k q false both = of_processor P kept k q (caller k q) refl both
 
+-- to ask nothing more is kept
+kept_alone : IsKept (λ k. Unit {0})
+kept_alone = record { settled = λ _ _ _ _ _ _. tt; passed = λ _ _ _. tt }
+
 -- a sound state is sound after what a seat does
 pub sound_act : (k : Plain) (q : ℕ) (a : Act) → IsSound k → act k q ≡ Some a → IsSound a.next
 sound_act k q a sound did =
     let P : Plain → Type 0 = λ k. Unit {0} in
-    (subst (AllNext (Both P)) did (both_act P (record { settled = λ _ _ _ _ _ _. tt; passed = λ _ _ _. tt }) k q (sound, tt))).0
+    (subst (AllNext (Both P)) did (both_act P kept_alone k q (sound, tt))).0
 
 both_next : (P : Plain → Type 0) (k : Plain) (o : Option Act) → Both P k → AllNext (Both P) o → Both P (next_of k o)
 both_next P k None both all = both
@@ -105,4 +109,4 @@ kept_after P kept s xs is begins =
 
 -- Each state that a legal history leads to is sound.
 pub sound_after : (s : Scenario) (xs : List Entry) → IsScenario s → Legal s xs → IsSound (after s xs)
-sound_after s xs is legal = (kept_after (λ k. Unit {0}) (record { settled = λ _ _ _ _ _ _. tt; passed = λ _ _ _. tt }) s xs is tt).0
+sound_after s xs is legal = (kept_after (λ k. Unit {0}) kept_alone s xs is tt).0

@@ -10,36 +10,36 @@ use Rattle.rk_model.specs.Lines.{rank, ranked_from, nth_urgent, most_urgent}
 use Rattle.rk_kernel.specs.Urgency.{place, inserted}
 
 -- how many threads of a list have a priority or a lesser one
-abbrev upto : (ℕ → ℕ) → ℕ → List ℕ → ℕ
+abbrev pub upto : (ℕ → ℕ) → ℕ → List ℕ → ℕ
 upto key p [] = 0
 upto key p (u ∷ us) = cond (nat_le (key u) p) 1 0 + upto key p us
 
 -- how many have a lesser one
-abbrev under : (ℕ → ℕ) → ℕ → List ℕ → ℕ
+abbrev pub under : (ℕ → ℕ) → ℕ → List ℕ → ℕ
 under key p [] = 0
 under key p (u ∷ us) = cond (nat_lt (key u) p) 1 0 + under key p us
 
-upto-append : (key : ℕ → ℕ) (p : ℕ) (xs ys : List ℕ) → upto key p (xs ++ ys) ≡ upto key p xs + upto key p ys
+pub upto-append : (key : ℕ → ℕ) (p : ℕ) (xs ys : List ℕ) → upto key p (xs ++ ys) ≡ upto key p xs + upto key p ys
 upto-append key p [] ys = omega arith
 upto-append key p (x ∷ xs) ys = omega (arith, upto-append key p xs ys)
 
-under-append : (key : ℕ → ℕ) (p : ℕ) (xs ys : List ℕ) → under key p (xs ++ ys) ≡ under key p xs + under key p ys
+pub under-append : (key : ℕ → ℕ) (p : ℕ) (xs ys : List ℕ) → under key p (xs ++ ys) ≡ under key p xs + under key p ys
 under-append key p [] ys = omega arith
 under-append key p (x ∷ xs) ys = omega (arith, under-append key p xs ys)
 
-upto-le : (key : ℕ → ℕ) (p q : ℕ) (xs : List ℕ) → p ≤ q → upto key p xs ≤ upto key q xs
+pub upto-le : (key : ℕ → ℕ) (p q : ℕ) (xs : List ℕ) → p ≤ q → upto key p xs ≤ upto key q xs
 upto-le key p q [] h = omega arith
 upto-le key p q (x ∷ xs) h = grind (arith, nat_tests, upto-le key p q xs h)
 
-under-le_upto : (key : ℕ → ℕ) (p q : ℕ) (xs : List ℕ) → p ≤ q → under key p xs ≤ upto key q xs
+pub under-le_upto : (key : ℕ → ℕ) (p q : ℕ) (xs : List ℕ) → p ≤ q → under key p xs ≤ upto key q xs
 under-le_upto key p q [] h = omega arith
 under-le_upto key p q (x ∷ xs) h = grind (arith, nat_tests, under-le_upto key p q xs h)
 
-upto-le_under : (key : ℕ → ℕ) (p q : ℕ) (xs : List ℕ) → p < q → upto key p xs ≤ under key q xs
+pub upto-le_under : (key : ℕ → ℕ) (p q : ℕ) (xs : List ℕ) → p < q → upto key p xs ≤ under key q xs
 upto-le_under key p q [] h = omega arith
 upto-le_under key p q (x ∷ xs) h = grind (arith, nat_tests, upto-le_under key p q xs h)
 
-under-le : (key : ℕ → ℕ) (p q : ℕ) (xs : List ℕ) → p ≤ q → under key p xs ≤ under key q xs
+pub under-le : (key : ℕ → ℕ) (p q : ℕ) (xs : List ℕ) → p ≤ q → under key p xs ≤ under key q xs
 under-le key p q [] h = omega arith
 under-le key p q (x ∷ xs) h = grind (arith, nat_tests, under-le key p q xs h)
 
@@ -53,7 +53,7 @@ upto_counts key p xs = is_count_by (upto key p) (λ u. nat_le (key u) p) refl (�
 under_counts : (key : ℕ → ℕ) (p : ℕ) (xs : List ℕ) → under key p xs ≡ count_by (λ u. nat_lt (key u) p) xs
 under_counts key p xs = is_count_by (under key p) (λ u. nat_lt (key u) p) refl (λ x us. one_more (nat_lt (key x) p) (under key p us)) xs
 
-rank_counts : (key : ℕ → ℕ) (front : List ℕ) (u : ℕ) (back : List ℕ) → rank key front u back ≡ upto key (key u) front + under key (key u) back
+pub rank_counts : (key : ℕ → ℕ) (front : List ℕ) (u : ℕ) (back : List ℕ) → rank key front u back ≡ upto key (key u) front + under key (key u) back
 rank_counts key front u back = rw (upto_counts key (key u) front, under_counts key (key u) back) refl
 
 -- the rank of a thread, and what it is where another comes to the end of the line: it stays and is below the other's, or it is one more and was not
@@ -218,7 +218,7 @@ get_above key n t [] ordered h = refl
 get_above key n t (u ∷ us) ordered h = above-either key n t u us (nat_lt (key t) (key u)) refl h (λ m g. get_above key m t us ordered.1 g)
 
 -- a list has the threads of a line in the order of their urgency:
-record IsSortOf (key : ℕ → ℕ) (line sorted : List ℕ) : Type 0 where
+pub record IsSortOf (key : ℕ → ℕ) (line sorted : List ℕ) : Type 0 where
   ordered : Ordered key sorted
   counts : (p : ℕ) → upto key p sorted ≡ upto key p line
   found : (n : ℕ) → nth_urgent key n line ≡ slice_get sorted n
@@ -248,7 +248,7 @@ sort_more key t line sorted is = record {
   found = λ n. sort_found key n t line sorted is;
 }
 
-abbrev all_inserted : (ℕ → ℕ) → List ℕ → List ℕ → List ℕ
+abbrev pub all_inserted : (ℕ → ℕ) → List ℕ → List ℕ → List ℕ
 all_inserted key done [] = done
 all_inserted key done (t ∷ ts) = all_inserted key (inserted key t done) ts
 
@@ -257,10 +257,10 @@ sort_all key front done [] is = rw append-nil is
 sort_all key front done (t ∷ ts) is = rw append_assoc at (sort_all key (front ++ t ∷ []) (inserted key t done) ts (sort_more key t front done is))
 
 -- a line, sorted by urgency
-abbrev sorted_line : (ℕ → ℕ) → List ℕ → List ℕ
+abbrev pub sorted_line : (ℕ → ℕ) → List ℕ → List ℕ
 sorted_line key line = all_inserted key [] line
 
-sort_of : (key : ℕ → ℕ) (line : List ℕ) → IsSortOf key line (sorted_line key line)
+pub sort_of : (key : ℕ → ℕ) (line : List ℕ) → IsSortOf key line (sorted_line key line)
 sort_of key line = sort_all key [] [] line (record { ordered = tt; counts = λ p. refl; found = λ n. refl })
 
 take_more_get : (m : ℕ) (us : List ℕ) → take m us ++ option_to_list (slice_get us m) ≡ take (suc m) us
@@ -270,7 +270,7 @@ take_more_get (suc m) [] = refl
 take_more_get (suc m) (u ∷ us) = ap (λ (vs : List ℕ). u ∷ vs) (take_more_get m us)
 
 -- the most urgent threads are the first ones of the sorted line
-most_sorted : (key : ℕ → ℕ) (m : ℕ) (line sorted : List ℕ) → IsSortOf key line sorted → most_urgent key m line ≡ take m sorted
+pub most_sorted : (key : ℕ → ℕ) (m : ℕ) (line sorted : List ℕ) → IsSortOf key line sorted → most_urgent key m line ≡ take m sorted
 most_sorted key zero line sorted is = refl
 most_sorted key (suc m) line sorted is = (rw (most_sorted key m line sorted is, is.found m) refl) ∙ take_more_get m sorted
 

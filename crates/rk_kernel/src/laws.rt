@@ -2,9 +2,25 @@
 //!
 //! Each speaks of the state after any legal history of a scenario.
 
-ghost use Rattle.rk_kernel.specs.Laws.{LinesHoldTheirOwn};
+ghost use Rattle.rk_kernel.specs.Laws.{LinesHoldTheirOwn, ProcessorsHaveTheRunners, RunnersAreTheMostUrgent, NoneRunsTwice};
 
 /// The line of each cluster holds exactly the eligible threads of that home, each once.
 pub fn lines_hold_their_own()
     ensures { LinesHoldTheirOwn }
+{}
+
+/// The processors of each cluster have exactly its runners, each on one processor.
+pub fn processors_have_the_runners()
+    ensures { ProcessorsHaveTheRunners }
+{}
+
+/// The runners of each cluster are exactly the threads of its line with fewer more urgent ones than
+/// there are processors.
+pub fn runners_are_the_most_urgent()
+    ensures { RunnersAreTheMostUrgent }
+{}
+
+/// No thread runs on two processors.
+pub fn none_runs_twice()
+    ensures { NoneRunsTwice }
 {}

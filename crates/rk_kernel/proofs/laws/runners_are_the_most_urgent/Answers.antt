@@ -1,0 +1,5 @@
+use Rattle.rk_kernel.proofs.Ranking.{runners_urgent}
+use Rattle.rk_kernel.proofs.laws.runners_are_the_most_urgent.Goals as goal
+
+pub returns : goal.returns
+returns c = runners_urgent
