@@ -11,14 +11,14 @@ use Rattle.rk_model.specs.declared.state.Thread.{Thread}
 use Rattle.rk_model.specs.Lists.{times}
 use Rattle.rk_model.specs.State.{Plain, ClusterState, no_thread, no_cluster, thread_at, cluster_at}
 use Rattle.rk_model.specs.Priorities.{is_eligible, spins, prio, or_zero, home_prio, standing, standings, standings_from, no_standing, nth_standing}
-use Rattle.rk_model.specs.Lines.{most_urgent, assigned, runners}
+use Rattle.rk_model.specs.Lines.{most_urgent, assigned}
 use Rattle.rk_model.specs.Settling.{moves, moved, key_of, settled_from, settle}
-use Rattle.rk_model.specs.Running.{all_cpus, cpu_at, view_of, running}
+use Rattle.rk_model.specs.Running.{all_cpus, cpu_at, view_of}
 use Rattle.rk_model.specs.Ticks.{pass}
 use Rattle.rk_model.specs.Histories.{free_cluster, vacant, after}
 use Rattle.rk_model.specs.Scenarios.{IsScenario}
 use Rattle.rk_kernel.specs.Sound.{stands, own, AllSound, IsClusterSound, IsSound, KeepsLines, IsGentle}
-use Rattle.rk_kernel.specs.Laws.{seats, IsManned, ProcessorsHaveTheRunners, NoneRunsTwice}
+use Rattle.rk_kernel.specs.Laws.{seats, ProcessorsHaveTheRunners, NoneRunsTwice}
 use Rattle.rk_kernel.proofs.Moving.{line_moved, standing_at, length-standings}
 use Rattle.rk_kernel.proofs.Assigning.{length-assigned}
 use Rattle.rk_kernel.proofs.Passing.{passed_steady}
@@ -91,10 +91,10 @@ home_prio-pass k t = sym (passed_steady (λ (x : Thread). or_zero (cond (x.home 
 kept_manned : IsKept AreManned
 kept_manned = record {
   settled = λ k next last sound gentle manned.
-  let clusters = (settle k next last).clusters in
-  other_key (key_of (standings next)) (home_prio (settle k next last)) clusters
-  (λ t. prio_noted next t ∙ sym (home_prio-with_clusters next clusters t))
-  (all_manned k next last (key_of (standings next)) 0 k.clusters next.clusters gentle sound.clusters manned gentle.lines);
+      let clusters = (settle k next last).clusters in
+      other_key (key_of (standings next)) (home_prio (settle k next last)) clusters
+      (λ t. prio_noted next t ∙ sym (home_prio-with_clusters next clusters t))
+      (all_manned k next last (key_of (standings next)) 0 k.clusters next.clusters gentle sound.clusters manned gentle.lines);
   passed = λ k sound manned. other_key (home_prio k) (home_prio (pass k)) k.clusters (home_prio-pass k) manned;
 }
 
@@ -178,9 +178,9 @@ pub seated_once : (k : Plain) (p q t : ℕ) → IsSound k → AreManned k → cp
 seated_once k p q t sound manned e f =
     let few = few_seats k t 0 k.clusters sound.clusters manned in
     same_seat t p q (all_cpus k.clusters) (one (nat_lt (thread_at k t).home 0) few) e f where
-  one : (b : Bool) {n : ℕ} → n ≤ cond b 0 1 → n ≤ 1
-  one true h = omega (arith, h)
-  one false h = h
+      one : (b : Bool) {n : ℕ} → n ≤ cond b 0 1 → n ≤ 1
+      one true h = omega (arith, h)
+      one false h = h
 
 runs_by : (u t : ℕ) (b : Bool) → cond b (Spins u) (Runs u) ≡ Runs t → Some u ≡ Some t
 runs_by u t true e = let no : ⊥ = cc in absurd no

@@ -1,5 +1,5 @@
 -- The threads of a line with fewer than m more urgent ones.
-use Rattle.std.proofs.Common.{◌≡◌, ◌≢◌, ℕ, zero, suc, ◌+◌, ◌<◌, ◌≤◌, List, [], ◌∷◌, ◌++◌, Bool, true, false, cond, eqb, nat_lt, nat_le, ◌||◌, ⊎_elim, Option, None, Some, length, length-append, take, arith, refl, sym, ap, ◌∙◌, append_assoc, subst}
+use Rattle.std.proofs.Common.{◌≡◌, ◌≢◌, ℕ, zero, suc, ◌+◌, ◌<◌, ◌≤◌, List, [], ◌∷◌, ◌++◌, Bool, true, false, cond, eqb, nat_lt, ⊎_elim, Option, None, Some, length, length-append, take, arith, refl, sym, ap, ◌∙◌, append_assoc, subst}
 use Rattle.std.specs.Option.{option_to_list}
 use Rattle.std.proofs.lemmas.List.{append-nil}
 use Rattle.std.proofs.lemmas.Bool.{false≢true, cases_lt}
@@ -10,7 +10,7 @@ use Rattle.rk_kernel.specs.Laws.{StandsUrgent, RunnersAreTheMostUrgent}
 use Rattle.rk_kernel.specs.Urgency.{inserted}
 use Rattle.rk_kernel.proofs.Tests.{equal_test}
 use Rattle.rk_kernel.proofs.Assigning.{either, or_front, or_back, has-append, option_has}
-use Rattle.rk_kernel.proofs.Sorting.{upto, under, upto-append, under-append, upto-le, under-le, upto-le_under, under-le_upto, rank_counts, all_inserted, sorted_line, sort_of, most_sorted}
+use Rattle.rk_kernel.proofs.Sorting.{upto-append, under-append, upto-le, under-le, upto-le_under, under-le_upto, rank_counts, all_inserted, sorted_line, sort_of, most_sorted}
 
 -- there are at most m of them
 pub most_few : (key : ℕ → ℕ) (m : ℕ) (line : List ℕ) → length (most_urgent key m line) ≤ m
@@ -77,9 +77,9 @@ has_found key n (suc m) line t e h =
     (λ lt. or_front (has (option_to_list (nth_urgent key m line)) t) (has_found key n m line t e lt))
     (λ le. or_back (has (most_urgent key m line) t) (last (let same : n ≡ m = omega (arith, h, le) in subst (λ j. nth_urgent key j line ≡ Some t) same e)))
     (cases_lt n m)
-    where
-  last : nth_urgent key m line ≡ Some t → has (option_to_list (nth_urgent key m line)) t ≡ true
-  last f = rw f (or_front false (equal_test t t refl))
+  where
+    last : nth_urgent key m line ≡ Some t → has (option_to_list (nth_urgent key m line)) t ≡ true
+    last f = rw f (or_front false (equal_test t t refl))
 
 -- what is found by a rank stands in the line with that rank
 record Splits (key : ℕ → ℕ) (n : ℕ) (line : List ℕ) (t : ℕ) : Type 0 where

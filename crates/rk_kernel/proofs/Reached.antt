@@ -1,5 +1,5 @@
 -- Each state that a history of a scenario leads to is sound, and has what settling and the passing of a tick keep.
-use Rattle.std.proofs.Common.{◌≡◌, ℕ, zero, suc, ◌+◌, ◌<◌, ◌≤◌, List, [], ◌∷◌, Bool, true, false, cond, eqb, ltb, Option, None, Some, length, arith, refl, subst, sym, ◌∙◌}
+use Rattle.std.proofs.Common.{◌≡◌, ℕ, zero, suc, ◌+◌, ◌<◌, ◌≤◌, List, [], ◌∷◌, Bool, true, false, cond, eqb, ltb, Option, None, Some, length, arith, refl, subst, ◌∙◌}
 use Rattle.std.proofs.lemmas.Bool.Decides.{nat_tests}
 use Rattle.rk_model.specs.declared.scenario.Scenario.{Scenario}
 use Rattle.rk_model.specs.declared.entry.Entry.{Entry}
@@ -11,8 +11,7 @@ use Rattle.rk_model.specs.Running.{caller, least}
 use Rattle.rk_model.specs.Timers.{thread_of}
 use Rattle.rk_model.specs.Ticks.{pass, expire, fire, fire_each, fire_cluster, fire_from, tick}
 use Rattle.rk_model.specs.Steps.{Act, action, act_of, clock_of, clock_entry, act}
-use Rattle.rk_model.specs.Histories.{vacant, started, opening, next_of, next_by, after_from, after, LegalFrom, Legal}
-use Rattle.rk_model.specs.Limits.{IsWithinLimits}
+use Rattle.rk_model.specs.Histories.{vacant, started, opening, next_of, next_by, after_from, after, Legal}
 use Rattle.rk_model.specs.Scenarios.{IsScenario}
 use Rattle.rk_model.proofs.Limits.{limits_of}
 use Rattle.rk_kernel.specs.Firing.{due_now}

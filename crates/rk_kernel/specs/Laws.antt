@@ -1,5 +1,5 @@
 -- What holds of each state that a legal history leads to: of lines, runners and processors.
-use Rattle.std.specs.Prelude.{ℕ, zero, suc, ◌+◌, ◌<◌, ◌≤◌, ◌≡◌, ◌↔◌, List, [], ◌∷◌, ◌++◌, true, Option, Some, None, ◌==◌, length, if◌then◌else◌}
+use Rattle.std.specs.Prelude.{ℕ, ◌+◌, ◌<◌, ◌≤◌, ◌≡◌, ◌↔◌, List, [], ◌∷◌, ◌++◌, true, Option, Some, None, ◌==◌, length, if◌then◌else◌}
 use Rattle.rk_model.specs.declared.scenario.Scenario.{Scenario}
 use Rattle.rk_model.specs.declared.entry.Entry.{Entry}
 use Rattle.rk_model.specs.declared.entry.View.TheVariants.{Runs}
