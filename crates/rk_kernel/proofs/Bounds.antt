@@ -1,6 +1,6 @@
 -- The bounds of threads.
-use Rattle.std.proofs.Common.{◌≡◌, ℕ, zero, suc, ◌+◌, ◌-◌, ◌<◌, ◌≤◌, List, [], ◌∷◌, Bool, true, false, Option, None, Some, length, get_or, IsSome, ⊎_elim, arith, refl}
-use Rattle.std.specs.List.{slice_get, All, AllByRecursion}
+use Rattle.std.proofs.Common.{◌≡◌, ℕ, zero, suc, ◌<◌, ◌≤◌, List, [], ◌∷◌, false, Option, None, Some, length, IsSome, ⊎_elim, arith, refl}
+use Rattle.std.specs.List.{slice_get, AllByRecursion}
 use Rattle.std.proofs.lemmas.List.{get_or_past}
 use Rattle.std.proofs.lemmas.Bool.{cases_lt, false≢true}
 use Rattle.rk_model.specs.declared.scenario.Scenario.{Scenario}
@@ -8,7 +8,7 @@ use Rattle.rk_model.specs.declared.scenario.Body.{Body}
 use Rattle.rk_model.specs.declared.scenario.Op.{Op}
 use Rattle.rk_model.specs.declared.state.Thread.{Thread}
 use Rattle.rk_model.specs.State.{Plain, no_thread, thread_at, op_at, op_in}
-use Rattle.rk_model.specs.Outcomes.{arrived, gone_on, work_at}
+use Rattle.rk_model.specs.Outcomes.{arrived, work_at}
 use Rattle.rk_kernel.specs.Sound.{IsSound, IsInBounds, is_in_call}
 
 -- the bounds of what stands where there is no thread

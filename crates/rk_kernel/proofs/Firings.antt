@@ -1,6 +1,6 @@
 -- Timers that are due fire one after another, and each firing keeps a state sound.
-use Rattle.std.proofs.Common.{◌≡◌, ◌≢◌, ℕ, zero, suc, ◌+◌, ◌-◌, ◌<◌, ◌≤◌, List, [], ◌∷◌, Bool, true, false, cond, eqb, ◌&&◌, Option, None, Some, length, get_or, set, arith, refl, ap, sym, ◌∙◌, subst}
-use Rattle.std.specs.List.{slice_index_or, slice_set, filter}
+use Rattle.std.proofs.Common.{◌≡◌, ◌≢◌, ℕ, zero, suc, ◌+◌, ◌<◌, List, [], ◌∷◌, Bool, true, false, cond, eqb, Option, None, Some, length, get_or, arith, refl, ap, sym, ◌∙◌, subst}
+use Rattle.std.specs.List.{slice_set}
 use Rattle.std.proofs.lemmas.List.{set-get_or, get_or-set_same}
 use Rattle.std.proofs.lemmas.Bool.{false≢true}
 use Rattle.std.proofs.lemmas.Bool.Decides.{nat_tests}
@@ -11,12 +11,12 @@ use Rattle.rk_model.specs.declared.state.Wait.{Wait}
 use Rattle.rk_model.specs.declared.state.Wait.TheVariants.{ForTime}
 use Rattle.rk_model.specs.Lists.{times}
 use Rattle.rk_model.specs.State.{Plain, ClusterState, no_cluster, thread_at, put_thread, cluster_at}
-use Rattle.rk_model.specs.Settling.{settle, settled_from}
+use Rattle.rk_model.specs.Settling.{settled_from}
 use Rattle.rk_model.specs.Timers.{due_at, is_due, without_due, take_due, thread_of, sleepers}
 use Rattle.rk_model.specs.Outcomes.{end_wait, reply_at_timer}
 use Rattle.rk_model.specs.Ticks.{expire, fire, fire_each}
 use Rattle.rk_kernel.specs.Firing.{head_of, due_now, FiresFirst}
-use Rattle.rk_kernel.specs.Sound.{IsSound, IsInBounds, IsGentle, is_timed, has_time, is_in_call}
+use Rattle.rk_kernel.specs.Sound.{IsSound, IsGentle, is_timed, has_time, is_in_call}
 use Rattle.rk_kernel.proofs.Tests.{equal_test, and_front, and_back}
 use Rattle.rk_kernel.proofs.Bounds.{bounds_at}
 use Rattle.rk_kernel.proofs.Gentle.{gentle_timers, is_timed_here, is_timed_other}

@@ -1,27 +1,19 @@
 -- Each directive changes little, so that settling makes the state sound again.
-use Rattle.std.proofs.Common.{◌≡◌, ◌≢◌, ℕ, zero, suc, ◌+◌, ◌-◌, ◌<◌, ◌≤◌, List, [], ◌∷◌, ◌++◌, Bool, true, false, cond, eqb, ◌&&◌, Option, None, Some, length, IsSome, arith, refl, sym, ◌∙◌, ap, length-append}
-use Rattle.std.specs.List.{slice_index_or, slice_set, AllByRecursion}
-use Rattle.std.proofs.lemmas.Bool.{false≢true}
+use Rattle.std.proofs.Common.{◌≡◌, ◌≢◌, ℕ, ◌+◌, ◌<◌, ◌≤◌, List, Bool, false, cond, eqb, ◌&&◌, length, arith, refl, sym, ◌∙◌, ap}
+use Rattle.std.specs.List.{slice_set}
 use Rattle.std.proofs.lemmas.Bool.Decides.{nat_tests}
-use Rattle.rk_model.specs.declared.scenario.Op.{Op}
-use Rattle.rk_model.specs.declared.scenario.Op.TheVariants.{Work, TaskWakeAfter}
-use Rattle.rk_model.specs.declared.entry.Reply.{Reply}
 use Rattle.rk_model.specs.declared.state.Life.TheVariants.{Ended}
-use Rattle.rk_model.specs.declared.state.Wait.{Wait}
-use Rattle.rk_model.specs.declared.state.Wait.TheVariants.{ForTime}
 use Rattle.rk_model.specs.declared.state.Thread.{Thread}
-use Rattle.rk_model.specs.declared.state.Armer.TheVariants.{Thread as OfThread}
 use Rattle.rk_model.specs.declared.state.Armed.{Armed}
-use Rattle.rk_model.specs.Lists.{times, nth}
-use Rattle.rk_model.specs.State.{Plain, ClusterState, no_thread, thread_at, put_thread, cluster_at, put_cluster, op_at}
-use Rattle.rk_model.specs.Timers.{sleepers, arm}
-use Rattle.rk_model.specs.Outcomes.{gone_on, go_on, begin_wait}
-use Rattle.rk_model.specs.Tasks.{task_exit, yield, sleep, task_wake_after}
-use Rattle.rk_model.specs.Steps.{directive, back, action_on, action}
-use Rattle.rk_kernel.specs.Sound.{IsSound, IsInBounds, IsGentle, AllTimed, is_timed, has_time, is_in_call}
+use Rattle.rk_model.specs.Lists.{times}
+use Rattle.rk_model.specs.State.{Plain, no_thread, thread_at, put_thread, cluster_at, put_cluster}
+use Rattle.rk_model.specs.Timers.{sleepers}
+use Rattle.rk_model.specs.Outcomes.{gone_on, go_on}
+use Rattle.rk_model.specs.Tasks.{task_exit}
+use Rattle.rk_kernel.specs.Sound.{IsSound, IsInBounds, IsGentle, is_timed, has_time, is_in_call}
 use Rattle.rk_kernel.proofs.Indices.{nth-with_same, nth-with_other, nth-with_kept, length-with_nth, All-with_nth}
-use Rattle.rk_kernel.proofs.Bounds.{bounds_at, line_in, arrived_bounds}
-use Rattle.rk_kernel.proofs.Timing.{keeps_same, keeps_timers, timed_same, timed_put, timers_at, is_timed-put_thread, is_timed-put_elsewhere, is_timed-with_clusters}
+use Rattle.rk_kernel.proofs.Bounds.{bounds_at, arrived_bounds}
+use Rattle.rk_kernel.proofs.Timing.{keeps_same, keeps_timers, timed_same, timed_put, is_timed-put_thread, is_timed-put_elsewhere, is_timed-with_clusters}
 
 -- to put back a thread within its bounds, with its home and its wait
 pub gentle_put : (k : Plain) (t : ℕ) (thread : Thread) → IsSound k → thread.home ≡ (thread_at k t).home → thread.wait ≡ (thread_at k t).wait → IsInBounds (length k.clusters) k.present thread → IsGentle k (put_thread k t thread)

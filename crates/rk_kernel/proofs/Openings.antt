@@ -8,17 +8,17 @@ use Rattle.rk_model.specs.declared.scenario.Scenario.{Scenario}
 use Rattle.rk_model.specs.declared.scenario.Init.{Init}
 use Rattle.rk_model.specs.declared.state.Thread.{Thread}
 use Rattle.rk_model.specs.Lists.{nth, times}
-use Rattle.rk_model.specs.State.{Plain, ClusterState, no_thread, thread_at}
+use Rattle.rk_model.specs.State.{Plain, no_thread, thread_at}
 use Rattle.rk_model.specs.Priorities.{is_eligible}
 use Rattle.rk_model.specs.Lines.{has_cpu}
 use Rattle.rk_model.specs.Running.{all_cpus}
 use Rattle.rk_model.specs.Histories.{begun, places, free_cluster, vacant, started, opening}
 use Rattle.rk_model.specs.Limits.{IsWithinLimits, cpus_in}
 use Rattle.rk_kernel.proofs.Bounds.{none_bounds}
-use Rattle.rk_kernel.specs.Sound.{stands, own, is_timed, AllSound, IsInBounds, IsSound, KeepsLines, AllTimed, IsGentle}
+use Rattle.rk_kernel.specs.Sound.{stands, own, is_timed, AllSound, IsInBounds, IsSound, AllTimed, IsGentle}
 use Rattle.rk_kernel.proofs.Counts.{times-filter}
 use Rattle.rk_kernel.proofs.Tests.{and_false}
-use Rattle.rk_kernel.proofs.Timing.{never_timed}
+use Rattle.rk_kernel.proofs.Timing.{never_timed, keeps_same}
 use Rattle.rk_kernel.proofs.Soundness.{sound_settled}
 
 pub length-places : (n : ℕ) (threads : List Thread) → length (places n threads) ≡ n
@@ -76,10 +76,6 @@ cpus-free : (counts : List ℕ) → length (all_cpus (map free_cluster counts)) 
 cpus-free [] = refl
 cpus-free (m ∷ counts) = omega (arith, length-append (replicate m (let n : Option ℕ = None in n)) (all_cpus (map free_cluster counts)), length-replicate {A = Option ℕ}, cpus-free counts)
 
-keeps_all : (clusters : List ClusterState) → KeepsLines clusters clusters
-keeps_all [] = tt
-keeps_all (cluster ∷ clusters) = (refl, refl, keeps_all clusters)
-
 -- a thread of an init line is within its bounds
 bounds_begun : (s : Scenario) (init : Init) (m : ℕ) → init.cluster < m → IsInBounds m 0 (begun s init)
 bounds_begun s init m home = record { home = home; line = omega arith; working = λ w. omega arith; calling = λ w. absurd (false≢true w); apart = λ w. refl; computed = omega arith }
@@ -126,7 +122,7 @@ gentle_started s within =
       places = length-places 64 (map (begun s) s.inits) ∙ sym (length-places 64 []);
       homes = λ t h. absurd (false≢true (sym (never_eligible (vacant s) t (no_place 64 t)) ∙ h));
       threads = rw size (All-from_recursion (IsInBounds (length s.clusters) 0) threads (all_begun s (length s.clusters) 64 s.inits within.some_cluster within.homes));
-      lines = keeps_all (vacant s).clusters;
+      lines = keeps_same (vacant s).clusters;
       timers = all_untimed (started s) 0 s.clusters (waits_not s 64 s.inits);
     }
 

@@ -1,6 +1,6 @@
 -- A tick that passes keeps a state sound, before any timer fires.
-use Rattle.std.proofs.Common.{◌≡◌, ℕ, zero, suc, ◌+◌, ◌-◌, ◌<◌, ◌≤◌, List, [], ◌∷◌, Bool, true, false, cond, eqb, ◌||◌, ◌&&◌, not, Option, None, Some, length, get_or, arith, refl, ap, sym, ◌∙◌}
-use Rattle.std.specs.List.{All, AllByRecursion, filter, range_with_len}
+use Rattle.std.proofs.Common.{◌≡◌, ℕ, zero, suc, ◌+◌, ◌<◌, ◌≤◌, List, [], ◌∷◌, Bool, true, false, cond, eqb, ◌||◌, ◌&&◌, not, Option, None, Some, length, get_or, arith, refl, ap, sym, ◌∙◌}
+use Rattle.std.specs.List.{AllByRecursion, range_with_len}
 use Rattle.std.proofs.lemmas.Bool.Decides.{nat_tests}
 use Rattle.std.proofs.lemmas.List.Elements.{filter_agree, All-from_recursion, recursion_from_All}
 use Rattle.rk_model.specs.declared.scenario.Scenario.{Scenario}
@@ -13,7 +13,7 @@ use Rattle.rk_model.specs.State.{Plain, ClusterState, no_thread, thread_at}
 use Rattle.rk_model.specs.Priorities.{is_eligible, is_started, is_no_wait, spins_in}
 use Rattle.rk_model.specs.Running.{runs_somewhere}
 use Rattle.rk_model.specs.Ticks.{charged, ticked, charge_from, pass}
-use Rattle.rk_kernel.specs.Sound.{IsSound, IsInBounds, AllSound, own, stands, is_timed, has_time, is_in_call}
+use Rattle.rk_kernel.specs.Sound.{IsSound, IsInBounds, AllSound, own, stands, is_timed, has_time}
 use Rattle.rk_kernel.proofs.Bounds.{arrived_bounds}
 
 -- what holds at each of two outcomes of a test holds of the choice

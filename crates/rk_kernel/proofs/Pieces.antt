@@ -1,13 +1,13 @@
 -- Changes of one cluster of the pieces, and the state that they stand for.
-use Rattle.std.proofs.Common.{◌≡◌, ℕ, ◌<◌, ◌++◌, [], ◌∷◌, List, length, map, get_or, refl, sym, ap, ◌∙◌}
+use Rattle.std.proofs.Common.{◌≡◌, ℕ, ◌<◌, ◌++◌, [], ◌∷◌, List, length, refl, sym, ap, ◌∙◌}
 use Rattle.std.specs.List.{slice_set, slice_index_or}
 use Rattle.std.proofs.lemmas.List.{map-set, get_or-map}
 use Rattle.rk_model.specs.declared.state.Armed.{Armed}
-use Rattle.rk_model.specs.State.{Plain, ClusterState, no_cluster, cluster_at, put_cluster}
+use Rattle.rk_model.specs.State.{no_cluster, cluster_at, put_cluster}
 use Rattle.rk_model.specs.Timers.{arm, take_due, without_due}
 use Rattle.rk_kernel.specs.declared.core_state.ClusterPart.{ClusterPart}
 use Rattle.rk_kernel.specs.declared.core_state.Core.{Core}
-use Rattle.rk_kernel.specs.Pieces.{cluster_of, clusters_of, plain_of}
+use Rattle.rk_kernel.specs.Pieces.{cluster_of, plain_of}
 
 -- the cluster of a number is that of its part
 pub cluster_at-plain_of : (core : Core) (c : ℕ) (part : ClusterPart) → c < length core.clusters → part ≡ slice_index_or core.clusters c part → cluster_at (plain_of core) c ≡ cluster_of part

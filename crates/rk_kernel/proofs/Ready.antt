@@ -1,13 +1,11 @@
 -- After a gentle change the pieces are ready to be settled, and they are sound and noted then.
-use Rattle.std.proofs.Common.{◌≡◌, ℕ, ◌<◌, ◌≤◌, List, length, arith, sym, ◌∙◌, subst, refl, ap}
+use Rattle.std.proofs.Common.{◌≡◌, ℕ, ◌≤◌, List, length, arith, sym, ◌∙◌, subst, refl, ap}
 use Rattle.std.proofs.lemmas.List.{length-map}
 use Rattle.rk_model.specs.declared.settling.Standing.{Standing}
 use Rattle.rk_model.specs.State.{Plain}
 use Rattle.rk_model.specs.Priorities.{standings}
 use Rattle.rk_model.specs.Settling.{moves, settle, settle_by}
 use Rattle.rk_kernel.specs.declared.core_state.Core.{Core}
-use Rattle.rk_kernel.specs.declared.core_state.Scratch.{Scratch}
-use Rattle.rk_kernel.specs.Noted.{IsNoted}
 use Rattle.rk_kernel.specs.Pieces.{cluster_of, clusters_of, plain_of}
 use Rattle.rk_kernel.specs.Room.{AllRoomy}
 use Rattle.rk_kernel.specs.Sound.{IsSound, IsGentle}

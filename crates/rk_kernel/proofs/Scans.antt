@@ -1,5 +1,5 @@
 -- Scans over the processors, step by step.
-use Rattle.std.proofs.Common.{◌≡◌, ℕ, zero, suc, ◌+◌, ◌-◌, ◌<◌, ◌||◌, arith, refl}
+use Rattle.std.proofs.Common.{◌≡◌, ℕ, suc, ◌+◌, ◌-◌, ◌<◌, ◌||◌, arith, refl}
 use Rattle.rk_model.specs.State.{Plain}
 use Rattle.rk_model.specs.Running.{running, caller, first_of, least_from, is_run_of, runs_from}
 

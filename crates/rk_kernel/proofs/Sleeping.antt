@@ -1,23 +1,22 @@
 -- A thread that goes to sleep.
-use Rattle.std.proofs.Common.{◌≡◌, ◌≢◌, ℕ, zero, suc, ◌+◌, ◌-◌, ◌<◌, ◌≤◌, List, [], ◌∷◌, ◌++◌, Bool, true, false, cond, eqb, ◌&&◌, Option, None, Some, length, IsSome, arith, refl, sym, ◌∙◌, ap, ⊎_elim}
-use Rattle.std.specs.List.{slice_index_or, range_with_len}
+use Rattle.std.proofs.Common.{◌≡◌, ◌≢◌, ℕ, zero, suc, ◌+◌, ◌<◌, ◌≤◌, List, [], ◌∷◌, ◌++◌, Bool, true, false, cond, eqb, Option, None, Some, length, IsSome, arith, refl, sym, ◌∙◌, ap, ⊎_elim}
+use Rattle.std.specs.List.{range_with_len}
 use Rattle.std.proofs.lemmas.Bool.{false≢true}
 use Rattle.std.proofs.lemmas.Bool.Decides.{nat_tests}
 use Rattle.rk_model.specs.declared.scenario.Op.{Op}
 use Rattle.rk_model.specs.declared.scenario.Op.TheVariants.{Work, TaskWakeAfter}
 use Rattle.rk_model.specs.declared.entry.Reply.{Reply}
-use Rattle.rk_model.specs.declared.state.Wait.{Wait}
 use Rattle.rk_model.specs.declared.state.Wait.TheVariants.{ForTime}
 use Rattle.rk_model.specs.declared.state.Thread.{Thread}
 use Rattle.rk_model.specs.declared.state.Armer.TheVariants.{Thread as OfThread}
 use Rattle.rk_model.specs.declared.state.Armed.{Armed}
-use Rattle.rk_model.specs.Lists.{times, nth}
+use Rattle.rk_model.specs.Lists.{times}
 use Rattle.rk_model.specs.State.{Plain, no_thread, thread_at, put_thread, cluster_at, op_at}
 use Rattle.rk_model.specs.Timers.{sleepers, thread_of}
 use Rattle.rk_model.specs.Outcomes.{gone_on}
-use Rattle.rk_model.specs.Tasks.{yield, sleep, task_wake_after, task_exit}
+use Rattle.rk_model.specs.Tasks.{yield, sleep}
 use Rattle.rk_model.specs.Steps.{directive, back, action_on, action}
-use Rattle.rk_kernel.specs.Sound.{IsSound, IsInBounds, IsGentle, is_timed, has_time, is_in_call}
+use Rattle.rk_kernel.specs.Sound.{IsSound, IsGentle, is_timed, has_time}
 use Rattle.std.proofs.lemmas.List.{get_or_past, length-map}
 use Rattle.std.proofs.lemmas.Bool.{cases_lt}
 use Rattle.rk_kernel.proofs.Counts.{length_by_times, length_range}

@@ -9,7 +9,7 @@ use Rattle.rk_model.specs.Lines.{most_urgent}
 use Rattle.rk_model.specs.Settling.{moves, moved, key_of, settled_cluster, settled_from, settle}
 use Rattle.rk_model.specs.Running.{all_cpus}
 use Rattle.rk_kernel.specs.Room.{AllRoomy}
-use Rattle.rk_kernel.specs.Sound.{stands, is_timed, own, IsClusterSound, AllSound, IsSound, KeepsLines, AllTimed, IsGentle}
+use Rattle.rk_kernel.specs.Sound.{stands, own, IsClusterSound, AllSound, IsSound, KeepsLines, AllTimed, IsGentle}
 use Rattle.rk_kernel.proofs.Timing.{is_timed-with_clusters}
 use Rattle.rk_kernel.proofs.Moving.{line_moved, line_short}
 use Rattle.rk_kernel.proofs.Assigning.{length-assigned, assigned_has}

@@ -1,12 +1,12 @@
 -- Timers and the threads that they are of.
-use Rattle.std.proofs.Common.{◌≡◌, ◌≢◌, ℕ, zero, suc, ◌+◌, ◌-◌, ◌<◌, ◌≤◌, List, [], ◌∷◌, ◌++◌, Bool, true, false, cond, eqb, ◌&&◌, None, length, get_or, set, arith, refl, sym, ◌∙◌, ap}
+use Rattle.std.proofs.Common.{◌≡◌, ◌≢◌, ℕ, zero, suc, ◌+◌, ◌<◌, List, [], ◌∷◌, false, cond, eqb, ◌&&◌, None, length, arith, refl}
 use Rattle.std.specs.List.{slice_set, slice_index_or}
 use Rattle.rk_model.specs.declared.state.Thread.{Thread}
 use Rattle.rk_model.specs.declared.state.Armed.{Armed}
 use Rattle.rk_model.specs.Lists.{times}
 use Rattle.rk_model.specs.State.{Plain, ClusterState, no_cluster, no_thread, thread_at, put_thread}
 use Rattle.rk_model.specs.Timers.{sleepers}
-use Rattle.rk_kernel.specs.Sound.{IsSound, IsClusterSound, AllSound, AllTimed, KeepsLines, is_timed, has_time}
+use Rattle.rk_kernel.specs.Sound.{AllSound, AllTimed, KeepsLines, is_timed, has_time}
 use Rattle.rk_kernel.proofs.Tests.{and_false}
 use Rattle.rk_kernel.proofs.Indices.{nth-with_kept}
 

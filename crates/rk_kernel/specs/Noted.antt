@@ -1,5 +1,5 @@
 -- What the room of a running kernel holds between its steps.
-use Rattle.std.specs.Prelude.{ℕ, ◌≡◌, length}
+use Rattle.std.specs.Prelude.{◌≡◌, length}
 use Rattle.rk_model.specs.State.{Plain}
 use Rattle.rk_model.specs.Priorities.{standings}
 use Rattle.rk_kernel.specs.declared.core_state.Scratch.{Scratch}

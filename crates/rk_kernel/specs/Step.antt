@@ -1,5 +1,5 @@
 -- A step of the kernel against the definitions.
-use Rattle.std.specs.Prelude.{ℕ, ◌≡◌, Option, Some, None}
+use Rattle.std.specs.Prelude.{ℕ, ◌≡◌, Some, None}
 use Rattle.rk_model.specs.declared.entry.What.TheVariants.{Tick, End}
 use Rattle.rk_model.specs.State.{Plain}
 use Rattle.rk_model.specs.Running.{running, caller, least, why_of}

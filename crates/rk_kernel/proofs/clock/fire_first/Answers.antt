@@ -1,12 +1,12 @@
-use Rattle.std.proofs.Common.{◌≡◌, length, arith, ap, sym, ◌∙◌, subst, refl, List, [], rules}
-use Rattle.std.proofs.lemmas.List.{length-map, length-set}
+use Rattle.std.proofs.Common.{length, arith, ap, sym, ◌∙◌, subst, refl, []}
+use Rattle.std.proofs.lemmas.List.{length-map}
 use Rattle.rk_model.specs.State.{Plain}
 use Rattle.rk_model.specs.Ticks.{expire}
 use Rattle.rk_model.specs.Timers.{thread_of}
 use Rattle.rk_kernel.specs.Noted.{IsNoted}
 use Rattle.rk_kernel.specs.Firing.{due_now}
 use Rattle.rk_kernel.specs.Pieces.{plain_of, cluster_of}
-use Rattle.rk_kernel.specs.Sound.{IsSound, IsGentle}
+use Rattle.rk_kernel.specs.Sound.{IsSound}
 use Rattle.rk_kernel.proofs.Firings.{unchanged, fires_none, fires_some, head_some, rest_of, expired, expire_gentle}
 use Rattle.rk_kernel.proofs.Ready.{ready, settled_next, settled_sound, settled_count, noted_length}
 use Rattle.rk_kernel.proofs.clock.fire_first.Goals as goal

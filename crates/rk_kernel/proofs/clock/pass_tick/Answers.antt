@@ -1,4 +1,4 @@
-use Rattle.std.proofs.Common.{◌≡◌, ◌+◌, List, length, arith, ap, sym, ◌∙◌, subst}
+use Rattle.std.proofs.Common.{◌+◌, List, length, arith, ap, sym, ◌∙◌, subst}
 use Rattle.rk_model.specs.declared.state.Thread.{Thread}
 use Rattle.rk_kernel.specs.Pieces.{plain_of}
 use Rattle.rk_kernel.specs.Sound.{IsSound}
