@@ -1,11 +1,11 @@
 -- A scenario that has a text is within the limits.
-use Rattle.std.proofs.Common.{◌≡◌, ℕ, ◌+◌, ◌<◌, ◌≤◌, List, [], ◌∷◌, length, arith}
+use Rattle.std.proofs.Common.{ℕ, ◌<◌, ◌≤◌, List, [], ◌∷◌, length, arith}
 use Rattle.std.specs.List.{AllByRecursion}
 use Rattle.rk_model.specs.declared.scenario.Body.{Body}
 use Rattle.rk_model.specs.declared.scenario.Init.{Init}
 use Rattle.rk_model.specs.declared.scenario.Scenario.{Scenario}
 use Rattle.rk_model.specs.Scenarios.{IsScenario, AreBodies, AreInits}
-use Rattle.rk_model.specs.Limits.{IsWithinLimits, cpus_in}
+use Rattle.rk_model.specs.Limits.{IsWithinLimits}
 
 short_bodies : (told : List (List (List ℕ))) (bodies : List Body) → AreBodies told bodies → AllByRecursion (λ (body : Body). length body.lines ≤ 1000) bodies
 short_bodies told [] are = tt

@@ -1,5 +1,5 @@
 -- The machine by which a scenario's text is gone through, line by line, and the first fault that it meets.
-use Rattle.std.specs.Prelude.{ℕ, ◌+◌, List, [], ◌∷◌, ◌++◌, Bool, true, false, ◌&&◌, not, Option, Some, None, Result, Ok, Err, is_some, nat_lt, nat_le, length, codes, if◌then◌else◌}
+use Rattle.std.specs.Prelude.{ℕ, ◌+◌, List, [], ◌∷◌, ◌++◌, Bool, false, ◌&&◌, not, Option, Some, None, Result, Ok, Err, is_some, nat_lt, nat_le, length, codes, if◌then◌else◌}
 use Rattle.std.specs.Str.{bytes_eq}
 use Rattle.rk_model.specs.declared.scenario.Op.{Op}
 use Rattle.rk_model.specs.declared.scenario.Op.TheVariants.{Work, TaskWakeAfter}

@@ -1,5 +1,5 @@
 -- The state of a kernel, as plain data.
-use Rattle.std.specs.Prelude.{ℕ, zero, suc, ◌+◌, ◌-◌, List, [], ◌∷◌, ◌++◌, Bool, true, false, Option, Some, None, slice_get, length}
+use Rattle.std.specs.Prelude.{ℕ, zero, suc, List, [], false, Option, Some, None, slice_get}
 use Rattle.std.specs.List.{slice_index_or, slice_set}
 use Rattle.rk_model.specs.declared.scenario.Scenario.{Scenario}
 use Rattle.rk_model.specs.declared.scenario.Body.{Body}

@@ -1,12 +1,11 @@
 -- What a seat does: a directive of a processor, a tick, or the end.
-use Rattle.std.specs.Prelude.{ℕ, List, [], Bool, Option, Some, None, nat_lt, ◌==◌, if◌then◌else◌}
+use Rattle.std.specs.Prelude.{ℕ, [], Option, Some, None, nat_lt, ◌==◌, if◌then◌else◌}
 use Rattle.rk_model.specs.declared.scenario.Op.{Op}
 use Rattle.rk_model.specs.declared.scenario.Op.TheVariants.{Work, TaskWakeAfter}
 use Rattle.rk_model.specs.declared.entry.Entry.{Entry}
 use Rattle.rk_model.specs.declared.entry.Reply.{Reply}
 use Rattle.rk_model.specs.declared.entry.What.{What}
 use Rattle.rk_model.specs.declared.entry.What.TheVariants.{Call, Return, Tick, End}
-use Rattle.rk_model.specs.declared.state.Thread.{Thread}
 use Rattle.rk_model.specs.Status.{status_code}
 use Rattle.rk_model.specs.State.{Plain, thread_at, put_thread, op_at}
 use Rattle.rk_model.specs.Settling.{settle}

@@ -1,9 +1,8 @@
 -- The directives of the task manager.
-use Rattle.std.specs.Prelude.{ℕ, ◌+◌, List, [], ◌∷◌, Option, Some, None, ◌==◌, if◌then◌else◌}
+use Rattle.std.specs.Prelude.{ℕ, ◌+◌, [], ◌∷◌, ◌==◌, if◌then◌else◌}
 use Rattle.rk_model.specs.declared.status.Status.TheVariants.{Successful, TaskExitted, Waits}
 use Rattle.rk_model.specs.declared.state.Life.TheVariants.{Ended}
 use Rattle.rk_model.specs.declared.state.Wait.TheVariants.{ForTime}
-use Rattle.rk_model.specs.declared.state.Thread.{Thread}
 use Rattle.rk_model.specs.declared.state.Armer.TheVariants.{Thread as OfThread}
 use Rattle.rk_model.specs.State.{Plain, thread_at, put_thread}
 use Rattle.rk_model.specs.Timers.{arm}

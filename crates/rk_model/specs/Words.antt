@@ -1,5 +1,5 @@
 -- The lines and the words of a text, and the spelling of numbers and names.
-use Rattle.std.specs.Prelude.{ℕ, zero, suc, ◌+◌, ◌-◌, ◌*◌, List, [], ◌∷◌, ◌++◌, Bool, true, false, ◌&&◌, ◌||◌, not, Option, Some, None, nat_lt, nat_le, ◌==◌, length, if◌then◌else◌, codes, drop, take}
+use Rattle.std.specs.Prelude.{ℕ, ◌+◌, ◌-◌, ◌*◌, List, [], ◌∷◌, ◌++◌, Bool, true, false, ◌&&◌, ◌||◌, Option, Some, None, nat_lt, nat_le, ◌==◌, length, if◌then◌else◌, drop}
 use Rattle.std.specs.List.{list_all, slice_index_or}
 
 -- the last line of a text, where it lacks its line feed
