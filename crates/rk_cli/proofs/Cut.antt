@@ -8,12 +8,9 @@ use Rattle.rk_model.specs.declared.scenario.Op.TheVariants.{Work, TaskWakeAfter}
 use Rattle.rk_model.specs.declared.entry.Entry.{Entry}
 use Rattle.rk_model.specs.declared.entry.What.TheVariants.{Tick, End}
 use Rattle.rk_model.specs.declared.entry.Reply.{Reply}
-use Rattle.rk_model.specs.declared.settling.Move.{Move}
 use Rattle.rk_model.specs.declared.state.Armed.{Armed}
-use Rattle.rk_model.specs.declared.state.Thread.{Thread}
 use Rattle.rk_model.specs.State.{Plain, ClusterState, no_cluster, cluster_at, thread_at, op_at}
-use Rattle.rk_model.specs.Lines.{most_urgent}
-use Rattle.rk_model.specs.Settling.{settle, settled_from, settled_cluster, moved}
+use Rattle.rk_model.specs.Settling.{settle}
 use Rattle.rk_model.specs.Running.{all_cpus, cpu_count, caller, first_of, least_from, least}
 use Rattle.rk_model.specs.Tasks.{sleep, yield}
 use Rattle.rk_model.specs.Timers.{thread_of, due_at}
@@ -22,17 +19,10 @@ use Rattle.rk_model.specs.Steps.{Act, act, act_of, clock_entry, action, action_o
 use Rattle.rk_model.specs.Histories.{opening, is_end, ends_from, ends, turn, lowest_on, lowest_from, lowest}
 use Rattle.rk_model.specs.Scenarios.{IsScenario}
 use Rattle.rk_model.proofs.Limits.{limits_of}
-use Rattle.rk_kernel.proofs.Assigning.{length-assigned}
 use Rattle.rk_kernel.proofs.Openings.{sound_opening}
+use Rattle.rk_kernel.proofs.Soundness.{cpus-settled}
 
 -- ---- no step changes how many processors there are
-
-settle_keeps : (move : ℕ → Move) (key : ℕ → ℕ) (threads : List Thread) (c : ℕ) (clusters : List ClusterState) → length (all_cpus (settled_from move key threads c clusters)) ≡ length (all_cpus clusters)
-settle_keeps move key threads c [] = refl
-settle_keeps move key threads c (cluster ∷ clusters) =
-    let a = length-assigned cluster.cpus (most_urgent key (length cluster.cpus) (moved move threads c cluster.line)) in
-    let b = settle_keeps move key threads (c + 1) clusters in
-    omega (arith, a, b, length-append (settled_cluster move key threads c cluster).cpus (all_cpus (settled_from move key threads (c + 1) clusters)), length-append cluster.cpus (all_cpus clusters))
 
 -- a cluster of the same processors at a number
 put_keeps : (clusters : List ClusterState) (c : ℕ) (cluster : ClusterState) → cluster.cpus ≡ (slice_index_or clusters c no_cluster).cpus → length (all_cpus (slice_set clusters c cluster)) ≡ length (all_cpus clusters)
@@ -59,7 +49,7 @@ unfolding action
 action_keeps k t = action_on_keeps k t (thread_at k t).finished
 
 settled_keeps : (k next : Plain) (last : List ℕ) → cpu_count (settle k next last) ≡ cpu_count next
-settled_keeps k next last = settle_keeps _ _ next.threads 0 next.clusters
+settled_keeps k next last = cpus-settled _ _ next.threads 0 next.clusters
 
 fire_keeps : (k : Plain) (c : ℕ) (timer : Armed) → cpu_count (fire k c timer) ≡ cpu_count k
 fire_keeps k c timer = settled_keeps k (expire k c (thread_of timer.who)) [] ∙ put_keeps k.clusters c _ refl

@@ -60,7 +60,7 @@ pub length-settled : (move : ℕ → Move) (key : ℕ → ℕ) (threads : List T
 length-settled move key threads c [] = refl
 length-settled move key threads c (cluster ∷ clusters) = omega (arith, length-settled move key threads (c + 1) clusters)
 
-cpus-settled : (move : ℕ → Move) (key : ℕ → ℕ) (threads : List Thread) (c : ℕ) (clusters : List ClusterState) → length (all_cpus (settled_from move key threads c clusters)) ≡ length (all_cpus clusters)
+pub cpus-settled : (move : ℕ → Move) (key : ℕ → ℕ) (threads : List Thread) (c : ℕ) (clusters : List ClusterState) → length (all_cpus (settled_from move key threads c clusters)) ≡ length (all_cpus clusters)
 cpus-settled move key threads c [] = refl
 cpus-settled move key threads c (cluster ∷ clusters) =
     let a = length-assigned cluster.cpus (most_urgent key (length cluster.cpus) (moved move threads c cluster.line)) in
