@@ -2,7 +2,6 @@
 
 ghost use Rattle.std.specs.Prelude.{◌≡◌, ◌<◌, ◌++◌, ◌∷◌, [], false, OnOk, IfOk, slice_get};
 ghost use Rattle.std.specs.Fmt.{decimal, digits};
-ghost use Rattle.rk_model.specs.State.{op_at};
 ghost use Rattle.rk_model.specs.Running.{running, cpu_count};
 ghost use Rattle.rk_model.specs.Histories.{opening, is_end, ends};
 ghost use Rattle.rk_model.specs.Scenarios.{IsScenario};
@@ -73,22 +72,6 @@ fn push_name(out: &mut Vec<u8>, scenario: &Scenario, body: u8) -> Result<(), NoM
     }
 }
 
-/// The line of a body, from 1; none where there is no such line or no body.
-fn op_of(scenario: &Scenario, body: u8, line: u16) -> Option<Op>
-    ensures { result ≡ op_at scenario.now body line }
-{
-    match scenario.bodies.get(body as usize) {
-        None => None,
-        Some(found) => {
-            if line == 0 {
-                None
-            } else {
-                found.lines.get(line as usize - 1).copied()
-            }
-        }
-    }
-}
-
 /// Adds the processor and the task of a directive.
 #[tactic(auto, unfolding(rk_model::specs::Schedules::seat_text))]
 fn push_seat(alloc: Global, out: &mut Vec<u8>, entry: &Entry) -> Result<(), NoMemory>
@@ -129,7 +112,7 @@ fn push_directive(
 {
     push_seat(alloc, out, entry)?;
     push_place(alloc, out, scenario, entry)?;
-    push_word(out, op_of(scenario, entry.body, entry.line))?;
+    push_word(out, scenario.op_at(entry.body, entry.line))?;
     push_answer(alloc, out, entry.what, entry.status, entry.out)?;
     push_bytes(out, b"\n".as_slice())
 }

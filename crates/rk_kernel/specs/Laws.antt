@@ -20,6 +20,7 @@ AfterEach Holds = (s : Scenario) (xs : List Entry) → IsScenario s → Legal s 
 abbrev pub HoldsItsOwn : Plain → Type 0
 HoldsItsOwn k = (c t : ℕ) → c < length k.clusters → times t (cluster_at k c).line ≡ (if stands k c t then 1 else 0)
 
+-- It is so after each legal history.
 abbrev pub LinesHoldTheirOwn : Type 0
 LinesHoldTheirOwn = AfterEach HoldsItsOwn
 
@@ -49,6 +50,7 @@ pub record StandsUrgent (key : ℕ → ℕ) (m : ℕ) (line : List ℕ) (t : ℕ
 abbrev pub RunsTheMostUrgent : Plain → Type 0
 RunsTheMostUrgent k = (c t : ℕ) → c < length k.clusters → has (runners k c) t ≡ true ↔ StandsUrgent (home_prio k) (length (cluster_at k c).cpus) (cluster_at k c).line t
 
+-- It is so after each legal history.
 abbrev pub RunnersAreTheMostUrgent : Type 0
 RunnersAreTheMostUrgent = AfterEach RunsTheMostUrgent
 

@@ -8,6 +8,7 @@ use Rattle.rk_kernel.specs.declared.core_state.Core.{Core}
 abbrev pub cluster_of : ClusterPart → ClusterState
 cluster_of part = record { line = part.line; cpus = part.cpus; timers = part.timers }
 
+-- the clusters that the parts stand for
 abbrev pub clusters_of : List ClusterPart → List ClusterState
 clusters_of parts = map cluster_of parts
 

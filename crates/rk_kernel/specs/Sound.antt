@@ -60,6 +60,7 @@ pub record IsInBounds (clusters present : ℕ) (thread : Thread) : Type 0 where
   pub apart : 0 < thread.left → is_in_call thread.wait thread.finished ≡ false
   pub computed : thread.computed ≤ present
 
+-- A state that a run may reach: sizes and numbers are within their limits, each thread is in bounds, and each cluster is sound.
 pub record IsSound (k : Plain) : Type 0 where
   pub places : length k.threads ≡ 64
   pub few_clusters : length k.clusters ≤ 4

@@ -19,7 +19,7 @@ use crate::timers::{take_due_of, thread_of_timer};
 use rk_model::{Items, Reply, Scenario, Status, Thread, ThreadIx, Wait};
 use std::mem;
 
-/// A thread that runs through a tick.
+/// The thread after a tick through which it ran.
 fn charge_thread(scenario: &Scenario, thread: Thread) -> Thread
     requires line { 0 < thread.left → thread.line ≤ 1000 }
     requires computed { thread.computed ≤ 1000000 }

@@ -7,7 +7,7 @@ ghost use Rattle.rk_kernel.specs.Does.{Does};
 ghost use Rattle.rk_kernel.specs.Pieces.{plain_of};
 
 use crate::core_state::{Core, Line};
-use crate::places::{arrive, op_of, put};
+use crate::places::{arrive, put};
 use crate::standing::thread_of;
 use crate::timers::arm_timer;
 use rk_model::{Armer, Life, Op, Reply, Status, Thread, ThreadIx, Wait};
@@ -20,7 +20,7 @@ fn bare(status: Status) -> Reply
     Reply { status, out: 0 }
 }
 
-/// The caller goes on to its next line.
+/// Moves the caller on to its next line.
 fn advance(core: &mut Core, caller: ThreadIx)
     requires { (thread_at (plain_of core.old) caller).line ≤ 1001 }
     ensures { plain_of core.new ≡ go_on (plain_of core.old) caller }
@@ -30,7 +30,7 @@ fn advance(core: &mut Core, caller: ThreadIx)
     put(core, caller, moved);
 }
 
-/// The caller begins to wait.
+/// Lets the caller begin to wait.
 fn wait(core: &mut Core, caller: ThreadIx, wait: Wait)
     ensures { plain_of core.new ≡ begin_wait (plain_of core.old) caller wait }
 {
@@ -42,7 +42,7 @@ fn wait(core: &mut Core, caller: ThreadIx, wait: Wait)
     put(core, caller, waiting);
 }
 
-/// The task ends.
+/// `task.exit` (`rtems_task_exit`): ends the task.
 fn exit_task(core: &mut Core, last: &mut Line, caller: ThreadIx) -> Reply
     requires { last.old ≡ [] }
     ensures { Does (task_exit (plain_of core.old) caller) result (plain_of core.new) last.new }
@@ -56,7 +56,7 @@ fn exit_task(core: &mut Core, last: &mut Line, caller: ThreadIx) -> Reply
     bare(Status::TaskExitted)
 }
 
-/// The caller goes to the end of its line.
+/// Puts the caller at the end of its line.
 fn yield_task(core: &mut Core, last: &mut Line, caller: ThreadIx) -> Reply
     requires none { last.old ≡ [] }
     requires line { (thread_at (plain_of core.old) caller).line ≤ 1001 }
@@ -67,7 +67,7 @@ fn yield_task(core: &mut Core, last: &mut Line, caller: ThreadIx) -> Reply
     bare(Status::Successful)
 }
 
-/// The caller waits for a time.
+/// Lets the caller wait for a time.
 fn sleep_task(core: &mut Core, last: &mut Line, caller: ThreadIx, ticks: u32) -> Reply
     requires none { last.old ≡ [] }
     requires home { (thread_at (plain_of core.old) caller).home < length core.old.clusters }
@@ -81,7 +81,7 @@ fn sleep_task(core: &mut Core, last: &mut Line, caller: ThreadIx, ticks: u32) ->
     bare(Status::Waits)
 }
 
-/// `task.wake_after`: the caller sleeps for so many ticks, and yields with 0.
+/// `task.wake_after` (`rtems_task_wake_after`): the caller sleeps for so many ticks, and yields with 0.
 fn wake_after(core: &mut Core, last: &mut Line, caller: ThreadIx, ticks: u32) -> Reply
     requires none { last.old ≡ [] }
     requires line { (thread_at (plain_of core.old) caller).line ≤ 1001 }
@@ -96,7 +96,7 @@ fn wake_after(core: &mut Core, last: &mut Line, caller: ThreadIx, ticks: u32) ->
     }
 }
 
-/// The caller returns from a directive that waited, and goes on.
+/// Lets the caller return from a directive that waited, and go on.
 fn return_task(core: &mut Core, last: &mut Line, caller: ThreadIx, reply: Reply) -> Reply
     requires none { last.old ≡ [] }
     requires line { (thread_at (plain_of core.old) caller).line ≤ 1001 }
@@ -112,7 +112,7 @@ fn return_task(core: &mut Core, last: &mut Line, caller: ThreadIx, reply: Reply)
     reply
 }
 
-/// The next action of a thread.
+/// Does the next action of a thread, and gives its reply.
 #[tactic(auto, unfolding(rk_model::specs::Steps::action))]
 pub(crate) fn perform(core: &mut Core, last: &mut Line, caller: ThreadIx) -> Reply
     requires none { last.old ≡ [] }
@@ -124,7 +124,7 @@ pub(crate) fn perform(core: &mut Core, last: &mut Line, caller: ThreadIx) -> Rep
     let thread = thread_of(core.threads.as_slice(), caller);
     match thread.finished {
         Some(reply) => return_task(core, last, caller, reply),
-        None => match op_of(&core.scenario, thread.body, thread.line) {
+        None => match core.scenario.op_at(thread.body, thread.line) {
             Some(Op::TaskWakeAfter(ticks)) => wake_after(core, last, caller, ticks),
             Some(Op::Work(_)) | None => exit_task(core, last, caller),
         },

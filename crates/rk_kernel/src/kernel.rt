@@ -36,6 +36,10 @@ impl Model for Parts {
 }
 
 /// The parts of the opening state of a scenario. It takes all the room that the run needs.
+///
+/// # Errors
+///
+/// `NoMemory` where there is no memory for it.
 pub fn open_parts(alloc: Global, scenario: &Scenario) -> Result<Parts, NoMemory>
     requires { IsScenario scenario.now }
     ensures { IfOk result (λ p. p ≡ opening scenario.now) }
@@ -45,7 +49,8 @@ pub fn open_parts(alloc: Global, scenario: &Scenario) -> Result<Parts, NoMemory>
     Ok(Parts { core, scratch })
 }
 
-/// A step of a processor: its directive, or why it has none. It takes no memory.
+/// A step of a processor, whose number is below `cpus_of`: its directive, or why it has none. It
+/// takes no memory.
 pub fn step_all(parts: &mut Parts, cpu: u8) -> CoreStep
     requires { cpu < cpu_count parts.old }
     ensures { IsStep parts.old cpu result parts.new }
@@ -60,7 +65,7 @@ pub fn tick_all(parts: &mut Parts) -> CoreTick
     tick_core(&mut parts.core, &mut parts.scratch)
 }
 
-/// What a processor does.
+/// What a processor does, whose number is below `cpus_of`.
 pub fn run_view(parts: &Parts, cpu: u8) -> View
     requires { cpu < cpu_count parts.now }
     ensures { result ≡ running parts.now cpu }
@@ -91,7 +96,8 @@ pub fn scenario_of(parts: &Parts) -> &Scenario
     &parts.core.scenario
 }
 
-/// Does again what a seat does; nothing where it does nothing. It takes no memory.
+/// Does again what a seat does: a processor from 0 to 7, or the clock, 8. Nothing where it does
+/// nothing. It takes no memory.
 pub fn replay(parts: &mut Parts, seat: u8)
     ensures { parts.new ≡ next_of parts.old (act parts.old seat) }
 {
@@ -144,6 +150,10 @@ fn step_least(parts: &mut Parts) -> Entry
 
 /// The history in which always the least processor that has a directive acts, else the clock, up to
 /// the end of the run or to the scenario's limit of entries.
+///
+/// # Errors
+///
+/// `NoMemory` where there is no memory for the history or the parts.
 pub fn run_lowest(alloc: Global, scenario: &Scenario) -> Result<History, NoMemory>
     requires { IsScenario scenario.now }
     ensures { IfOk result (λ h. h.entries ≡ lowest scenario.now scenario.now.limit) }
@@ -151,7 +161,8 @@ pub fn run_lowest(alloc: Global, scenario: &Scenario) -> Result<History, NoMemor
     let mut history = History::new(alloc, scenario.limit)?;
     let mut parts = open_parts(alloc, scenario)?;
     for count in 0..scenario.limit {
-        let _turn = count;
+        // The proof speaks of how many entries there are so far by this name.
+        let _made = count;
         let entry = step_least(&mut parts);
         history.push(entry);
         if let What::End = entry.what {

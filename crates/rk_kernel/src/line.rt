@@ -96,7 +96,7 @@ fn is_on_cpu(cpus: &[Option<ThreadIx>], thread: ThreadIx) -> bool
     false
 }
 
-/// Puts the threads that no processor has into `out`.
+/// Puts those of the runners that no processor has into `out`.
 pub(crate) fn find_fresh(out: &mut Line, cpus: &[Option<ThreadIx>], running: &[ThreadIx])
     requires { length running.now ≤ 64 }
     ensures { out.new ≡ filter (λ t. not (has_cpu cpus.now t)) running.now }

@@ -1,6 +1,6 @@
 ghost use Rattle.std.specs.Prelude.{◌≡◌, ◌<◌, ◌≤◌, ◌+◌, ◌-◌, ℕ, None, length, IfSome, IsSome};
 ghost use Rattle.std.specs.List.{slice_index_or};
-ghost use Rattle.rk_model.specs.State.{op_at, put_thread, thread_at};
+ghost use Rattle.rk_model.specs.State.{put_thread, thread_at};
 ghost use Rattle.rk_model.specs.Running.{all_cpus, cpu_count, running, caller, least, least_from, runs_from, runs_somewhere, is_run_of, why_of};
 ghost use Rattle.rk_model.specs.Outcomes.{work_at, arrived};
 ghost use Rattle.rk_kernel.specs.Pieces.{plain_of, clusters_of};
@@ -8,22 +8,6 @@ ghost use Rattle.rk_kernel.specs.Pieces.{plain_of, clusters_of};
 use crate::core_state::{ClusterPart, Core};
 use crate::standing::{spins, thread_of};
 use rk_model::{Op, Scenario, Thread, ThreadIx, View, Why};
-
-/// The line of a body, from 1; none where there is no such line or no body.
-pub(crate) fn op_of(scenario: &Scenario, body: u8, line: u16) -> Option<Op>
-    ensures { result ≡ op_at scenario.now body line }
-{
-    match scenario.bodies.get(body as usize) {
-        None => None,
-        Some(found) => {
-            if line == 0 {
-                None
-            } else {
-                found.lines.get(line as usize - 1).copied()
-            }
-        }
-    }
-}
 
 /// The work that a thread has on arriving at a line.
 pub(crate) fn work_of(op: Option<Op>) -> u32
@@ -39,7 +23,7 @@ pub(crate) fn work_of(op: Option<Op>) -> u32
 pub(crate) fn arrive(scenario: &Scenario, thread: Thread, line: u16) -> Thread
     ensures { result ≡ arrived scenario.now thread line }
 {
-    let left = work_of(op_of(scenario, thread.body, line));
+    let left = work_of(scenario.op_at(thread.body, line));
     Thread {
         line,
         left,

@@ -48,6 +48,7 @@ next_of k (Some a) = a.next
 abbrev pub next_by : Plain → Entry → Plain
 next_by k x = next_of k (act k x.seat)
 
+-- the state after these entries, from a state on
 abbrev pub after_from : Plain → List Entry → Plain
 after_from k [] = k
 after_from k (x ∷ xs) = after_from (next_by k x) xs
@@ -56,6 +57,7 @@ after_from k (x ∷ xs) = after_from (next_by k x) xs
 abbrev pub after : Scenario → List Entry → Plain
 after s xs = after_from (opening s) xs
 
+-- whether an entry is the end of the run
 abbrev pub is_end : What → Bool
 is_end Call = false
 is_end Return = false
@@ -76,6 +78,7 @@ abbrev pub IsOf : Option Act → Entry → Type 0
 IsOf None x = ⊥
 IsOf (Some a) x = a.entry ≡ x
 
+-- These entries, from a state on, are each what its seat does at its place, and nothing follows End.
 abbrev pub LegalFrom : Plain → List Entry → Type 0
 LegalFrom k [] = Unit {0}
 LegalFrom k (x ∷ xs) = IsOf (act k x.seat) x × (is_end x.what ≡ true → xs ≡ []) × LegalFrom (next_by k x) xs
@@ -92,6 +95,7 @@ of xs q = filter (λ (x : Entry). x.seat == q) xs
 abbrev pub turn : Plain → ℕ
 turn k = unwrap_or (least k) 8
 
+-- what a seat did, and after it, but for End, the rest
 abbrev pub lowest_on : (Plain → List Entry) → Option Act → List Entry
 lowest_on rest None = []
 lowest_on rest (Some a) = a.entry ∷ (if is_end a.entry.what then [] else rest a.next)

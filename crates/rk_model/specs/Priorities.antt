@@ -37,11 +37,12 @@ is_eligible k t =
 unfoldable pub prio : Plain → ℕ → ℕ → Option ℕ
 prio k t c = if (thread_at k t).home == c then Some (thread_at k t).base else None
 
+-- a priority, and 0 where there is none
 abbrev pub or_zero : Option ℕ → ℕ
 or_zero None = 0
 or_zero (Some p) = p
 
--- the priority of a thread in its home
+-- the priority of a thread in its home; 0 where it has none
 unfoldable pub home_prio : Plain → ℕ → ℕ
 home_prio k t = or_zero (prio k t (thread_at k t).home)
 

@@ -32,11 +32,11 @@ pub record Draft : Type 0 where
   pub scenario : Scenario
   pub body : Body
 
--- no body is open
+-- the body of a draft in which none is open
 abbrev pub no_body : Body
 no_body = record { name = []; lines = [] }
 
--- before the first line
+-- the draft before the first line
 abbrev pub start : Draft
 start = record {
   phase = Start;
@@ -62,7 +62,7 @@ abbrev pub below : ℕ → Option ℕ → Result ℕ ScenarioWhy
 below count None = Err NotYetBuilt
 below count (Some n) = if nat_lt n count then Ok n else Err NotYetBuilt
 
--- what there is
+-- a number or name where there is one
 abbrev pub known : Option ℕ → Result ℕ ScenarioWhy
 known None = Err NotYetBuilt
 known (Some n) = Ok n
@@ -117,7 +117,7 @@ is_header (first ∷ []) = false
 is_header (first ∷ second ∷ []) = bytes_eq first (codes "rtems") && bytes_eq second (codes "1")
 is_header (first ∷ second ∷ third ∷ words) = false
 
--- there is one cluster more, of so many processors
+-- the draft with one cluster more, of so many processors
 abbrev pub with_cluster : Draft → ℕ → Draft
 with_cluster d m = record d { phase = Clustered; scenario = record d.scenario { clusters = d.scenario.clusters ++ m ∷ [] } }
 
@@ -153,11 +153,11 @@ is_end [] = false
 is_end (first ∷ []) = bytes_eq first (codes "end")
 is_end (first ∷ second ∷ words) = false
 
--- the open body is one of the bodies
+-- the draft in which the open body has become one of the bodies
 abbrev pub with_body : Draft → Draft
 with_body d = record d { phase = Timed; scenario = record d.scenario { bodies = d.scenario.bodies ++ d.body ∷ [] }; body = no_body }
 
--- the open body has one line more
+-- the draft in which the open body has one line more
 abbrev pub with_op : Draft → Op → Draft
 with_op d op = record d { body = record d.body { lines = d.body.lines ++ op ∷ [] } }
 
@@ -181,7 +181,7 @@ init_operands s (name ∷ cluster ∷ priority ∷ body ∷ []) = do
   Ok (record { name = record { bits = bits }; cluster = c; prio = p; body = b })
 init_operands s (name ∷ cluster ∷ priority ∷ body ∷ more ∷ words) = Err NotYetBuilt
 
--- there is one init more
+-- the draft with one init more
 abbrev pub with_init : Draft → Init → Draft
 with_init d init = record d { phase = InInits; scenario = record d.scenario { inits = d.scenario.inits ++ init ∷ [] } }
 
@@ -191,27 +191,33 @@ init_line d operands = do
   init ← init_operands d.scenario operands
   if nat_lt (length d.scenario.inits) 64 then Ok (with_init d init) else Err NotYetBuilt
 
--- ---- what may come at each phase
+-- ---- what may come at each phase: the draft after a line of these words
 
+-- the header alone
 abbrev pub at_start : Draft → List (List ℕ) → Result Draft ScenarioWhy
 at_start d words = if is_header words then Ok (record d { phase = Headed }) else Err Header
 
+-- a cluster
 abbrev pub at_headed : Draft → List (List ℕ) → Result Draft ScenarioWhy
 at_headed d [] = Err NotYetBuilt
 at_headed d (first ∷ operands) = if bytes_eq first (codes "cluster") then cluster_line d operands else Err NotYetBuilt
 
+-- the ticks
 abbrev pub at_clustered : Draft → List (List ℕ) → Result Draft ScenarioWhy
 at_clustered d [] = Err NotYetBuilt
 at_clustered d (first ∷ operands) = if bytes_eq first (codes "ticks") then ticks_line d operands else Err NotYetBuilt
 
+-- an init
 abbrev pub at_inits : Draft → List (List ℕ) → Result Draft ScenarioWhy
 at_inits d [] = Err NotYetBuilt
 at_inits d (first ∷ operands) = if bytes_eq first (codes "init") then init_line d operands else Err NotYetBuilt
 
+-- a body or an init
 abbrev pub at_timed : Draft → List (List ℕ) → Result Draft ScenarioWhy
 at_timed d [] = Err NotYetBuilt
 at_timed d (first ∷ operands) = if bytes_eq first (codes "body") then body_line d operands else at_inits d (first ∷ operands)
 
+-- the end of the open body, or a line of it
 abbrev pub in_body : Draft → List (List ℕ) → Result Draft ScenarioWhy
 in_body d words = if is_end words then Ok (with_body d) else inner_line d words
 
@@ -267,6 +273,7 @@ verdict_from d n (line ∷ lines) = goes_on (after_line d line) n (λ next. verd
 abbrev pub verdict : List ℕ → Verdict
 verdict bytes = if nat_lt 1048576 (length bytes) then Faults (record { line = 0; why = TooLarge }) else verdict_from start 1 (lines_of bytes)
 
+-- the fault of a verdict
 abbrev pub fault_in : Verdict → Option Fault
 fault_in (Reads s) = None
 fault_in (Faults fault) = Some fault

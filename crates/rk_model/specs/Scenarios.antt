@@ -24,7 +24,7 @@ abbrev pub IsOp : List (List ℕ) → Op → Type 0
 IsOp words (Work n) = (ticks : List ℕ) × (words ≡ codes "work" ∷ ticks ∷ []) × IsNumber ticks n 1 1000000
 IsOp words (TaskWakeAfter n) = (ticks : List ℕ) × (words ≡ codes "task.wake_after" ∷ ticks ∷ []) × IsNumber ticks n 0 4294967295
 
--- line by line
+-- The lines are those of the ops, one each.
 abbrev pub AreOps : List (List (List ℕ)) → List Op → Type 0
 AreOps [] [] = Unit {0}
 AreOps [] (op ∷ ops) = ⊥
@@ -44,6 +44,7 @@ abbrev pub AreBodies : List (List (List ℕ)) → List Body → Type 0
 AreBodies told [] = told ≡ []
 AreBodies told (body ∷ bodies) = (first rest : List (List (List ℕ))) × (told ≡ first ++ rest) × IsBody first body × AreBodies rest bodies
 
+-- whether a body has the name
 abbrev pub is_named : List ℕ → Body → Bool
 is_named name body = bytes_eq body.name name
 
@@ -74,7 +75,7 @@ pub record IsInit (s : Scenario) (words : List (List ℕ)) (init : Init) : Type 
   pub priority_is : IsNumber priority init.prio 1 255
   pub body_is : body_of s.bodies body ≡ Some init.body
 
--- line by line
+-- The lines are those of the inits, one each.
 abbrev pub AreInits : Scenario → List (List (List ℕ)) → List Init → Type 0
 AreInits s [] [] = Unit {0}
 AreInits s [] (init ∷ inits) = ⊥
@@ -85,7 +86,7 @@ AreInits s (words ∷ told) (init ∷ inits) = IsInit s words init × AreInits s
 abbrev pub IsCluster : List (List ℕ) → ℕ → Type 0
 IsCluster words m = (count : List ℕ) × (words ≡ codes "cluster" ∷ count ∷ []) × IsNumber count m 1 8
 
--- line by line
+-- The lines are those of the clusters, one each.
 abbrev pub AreClusters : List (List (List ℕ)) → List ℕ → Type 0
 AreClusters [] [] = Unit {0}
 AreClusters [] (m ∷ ms) = ⊥

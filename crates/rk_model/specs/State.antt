@@ -46,11 +46,12 @@ cluster_at k c = slice_index_or k.clusters c no_cluster
 abbrev pub put_cluster : Plain → ℕ → ClusterState → Plain
 put_cluster k c cluster = record k { clusters = slice_set k.clusters c cluster }
 
--- the line of a body, from 1; none where there is no such line or no body
+-- the line of a body, from 1; none where there is no such line
 abbrev pub op_in : Option Body → ℕ → Option Op
 op_in None line = None
 op_in (Some body) zero = None
 op_in (Some body) (suc i) = slice_get body.lines i
 
+-- the line of the body of a number; none where there is no such line or no body
 abbrev pub op_at : Scenario → ℕ → ℕ → Option Op
 op_at s b line = op_in (slice_get s.bodies b) line

@@ -14,7 +14,7 @@ use Rattle.rk_model.specs.Outcomes.{Outcome, gone_on}
 use Rattle.rk_model.specs.Tasks.{task_exit, task_wake_after}
 use Rattle.rk_model.specs.Ticks.{tick}
 
--- What the line of a body does; behind the last line it is the exit. A thread whose next action is a directive is at no line of work.
+-- What the line of a body does; behind the last line it is the exit. A thread at a line of work computes and has no action; for it this says the exit, only so that there is something.
 abbrev pub directive : Plain → ℕ → Option Op → Outcome
 directive k t None = task_exit k t
 directive k t (Some (Work n)) = task_exit k t
@@ -34,6 +34,7 @@ abbrev pub action_on : Plain → ℕ → Option Reply → Outcome
 action_on k t None = directive k t (op_at k.scenario (thread_at k t).body (thread_at k t).line)
 action_on k t (Some reply) = back k t reply
 
+-- the next action of a thread
 unfoldable pub action : Plain → ℕ → Outcome
 action k t = action_on k t (thread_at k t).finished
 

@@ -8,7 +8,7 @@ use Rattle.rk_model.specs.State.{Plain, thread_at, put_thread}
 use Rattle.rk_model.specs.Timers.{arm}
 use Rattle.rk_model.specs.Outcomes.{Outcome, go_on, begin_wait}
 
--- task.exit: the task is ended, and stays at its place.
+-- task.exit (rtems_task_exit): the task is ended, and stays at its place.
 abbrev pub task_exit : Plain → ℕ → Outcome
 task_exit k t = record {
   status = TaskExitted;
@@ -30,6 +30,6 @@ sleep k t ticks = record {
   last = [];
 }
 
--- task.wake_after: with 0 ticks the caller goes to the end of its line, and else it waits for so many ticks.
+-- task.wake_after (rtems_task_wake_after): with 0 ticks the caller goes to the end of its line, and else it waits for so many ticks.
 abbrev pub task_wake_after : Plain → ℕ → ℕ → Outcome
 task_wake_after k t ticks = if ticks == 0 then yield k t else sleep k t ticks

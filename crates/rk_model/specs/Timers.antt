@@ -5,6 +5,7 @@ use Rattle.rk_model.specs.declared.state.Armer.TheVariants.{Thread as OfThread}
 use Rattle.rk_model.specs.declared.state.Armed.{Armed}
 use Rattle.rk_model.specs.State.{Plain, ClusterState, cluster_at, put_cluster}
 
+-- whether a timer fires at a tick
 abbrev pub is_due : ℕ → Armed → Bool
 is_due tick timer = timer.due == tick
 

@@ -26,6 +26,10 @@ impl<T, const MOST: usize> Model for Bounded<T, MOST> {
 
 impl<T, const MOST: usize> Bounded<T, MOST> {
     /// No items, and room for `MOST`.
+    ///
+    /// # Errors
+    ///
+    /// `NoMemory` where there is no memory for them.
     pub fn new(alloc: Global) -> Result<Bounded<T, MOST>, NoMemory>
         ensures { IfOk result (λ it. it ≡ []) }
     {

@@ -5,6 +5,7 @@ use std::marker::Model;
 /// The four characters of a name as one number; 0 is no name.
 #[derive(Clone, Copy, Debug, PartialEq, Eq)]
 pub struct Name {
+    /// The first character is the highest byte.
     pub bits: u32,
 }
 

@@ -1,3 +1,6 @@
+ghost use Rattle.std.specs.Prelude.{◌≡◌};
+ghost use Rattle.rk_model.specs.State.{op_at};
+
 use crate::items::Items;
 use crate::numbers::{Name, Prio};
 
@@ -19,25 +22,30 @@ pub type Inits = Items<Init>;
 /// A line of a body.
 #[derive(Clone, Copy, Debug, PartialEq, Eq)]
 pub enum Op {
-    /// `work N`: computes for so many ticks.
+    /// `work N`: computes for so many ticks, from 1 to 1,000,000.
     Work(u32),
-    /// `task.wake_after TICKS`: sleeps for so many ticks, and yields with 0.
+    /// `task.wake_after TICKS` (`rtems_task_wake_after`): sleeps for so many ticks, from 1 to
+    /// 4,294,967,295; with 0 (`RTEMS_YIELD_PROCESSOR`) it goes to the end of its priority.
     TaskWakeAfter(u32),
 }
 
 /// A script that tasks run.
 #[derive(Debug, Drop)]
 pub struct Body {
+    /// 1 to 16 characters.
     pub name: BodyName,
+    /// At most 1,000.
     pub lines: Lines,
 }
 
 /// A task that is created and started at opening.
 #[derive(Clone, Copy, Debug, PartialEq, Eq)]
 pub struct Init {
+    /// Its four characters.
     pub name: Name,
     /// The number of its home cluster, from 0.
     pub cluster: u8,
+    /// Its base priority, from 1, the most urgent, to 255.
     pub prio: Prio,
     /// The number of its body, from 0.
     pub body: u8,
@@ -46,19 +54,41 @@ pub struct Init {
 /// What is to be run.
 #[derive(Debug, Drop)]
 pub struct Scenario {
+    /// 1 to 4 clusters, with at most 8 processors in all.
     pub clusters: Clusters,
-    /// The tick at which the run ends.
+    /// The tick at which the run ends, at most 1,000,000.
     pub horizon: u32,
-    /// The greatest number of entries of a history.
+    /// The greatest number of entries of a history, at most 1,000,000.
     pub limit: u32,
+    /// The scripts that the tasks run.
     pub bodies: Bodies,
+    /// At most 64.
     pub inits: Inits,
+}
+
+impl Scenario {
+    /// The line of the body of a number, from 1; `None` where there is no such line or no body.
+    pub fn op_at(&self, body: u8, line: u16) -> Option<Op>
+        ensures { result ≡ op_at self.now body line }
+    {
+        match self.bodies.get(body as usize) {
+            None => None,
+            Some(found) => {
+                if line == 0 {
+                    None
+                } else {
+                    found.lines.get(line as usize - 1).copied()
+                }
+            }
+        }
+    }
 }
 
 /// Why a scenario's text is refused.
 #[derive(Clone, Copy, Debug, PartialEq, Eq)]
 pub enum ScenarioWhy {
-    /// The first line that isn't skipped isn't `rtems 1`, or there is none.
+    /// The first line that isn't skipped has only bytes that a text may have and isn't `rtems 1`, or
+    /// there is no such line.
     Header,
     /// The text has more than 1,048,576 bytes.
     TooLarge,

@@ -24,10 +24,11 @@ pub enum Wait {
 /// A thread of a kernel: a task as it runs.
 #[derive(Clone, Copy, Debug, PartialEq, Eq)]
 pub struct Thread {
+    /// How far its life has come.
     pub life: Life,
     /// The number of the cluster that it runs in, from 0.
     pub home: u8,
-    /// Its base priority, from 1, the most urgent, to 255.
+    /// Its base priority, from 1, the most urgent, to 255; 0 where there is no task.
     pub base: u8,
     /// The number of its body, from 0.
     pub body: u8,
@@ -39,6 +40,7 @@ pub struct Thread {
     pub wait: Option<Wait>,
     /// What the directive answers whose wait has ended, until the thread returns from it.
     pub finished: Option<Reply>,
+    /// Whether it is suspended.
     pub suspended: bool,
     /// The ticks that it has computed in all.
     pub computed: u32,
@@ -77,6 +79,7 @@ pub enum Armer {
 /// An armed timer.
 #[derive(Clone, Copy, Debug, PartialEq, Eq)]
 pub struct Armed {
+    /// Whose timer it is.
     pub who: Armer,
     /// The tick at which it fires.
     pub due: u64,
