@@ -1,5 +1,7 @@
-use crate::plain_top;
+use crate::{plain_top, write_schedule};
 use rk_io::{MemSink, MemSource, SureSink, SureSource};
+use rk_kernel::run_lowest;
+use rk_scenario::read_scenario;
 use std::alloc::Global;
 use std::test::Fail;
 
@@ -10,6 +12,10 @@ const TWO_TASKS: &str =
 
 const TWO_TASKS_SCHEDULE: &str =
     "schedule 1\ntick 1 t1\np0 t1 a:2 task.wake_after waits\np0 t2 b:1 task.wake_after done 0 0\ntick 2 t2\np0 t1 a:2 task.wake_after back 0 0\np0 t1 a:3 task.exit done 1 0\np0 t2 b:3 task.exit done 1 0\ntick 3 -\nend 3\n";
+
+/// The schedule of the first five entries of that history.
+const TWO_TASKS_CUT: &str =
+    "schedule 1\ntick 1 t1\np0 t1 a:2 task.wake_after waits\np0 t2 b:1 task.wake_after done 0 0\ntick 2 t2\np0 t1 a:2 task.wake_after back 0 0\nlimit\n";
 
 const USAGE: &str = "usage: rtems_smp run | plan | check | big N\n";
 
@@ -50,6 +56,19 @@ fn writes_whole_texts(rt: HostRuntime) -> Result<(), Fail> {
         let (got, sink) = run(rt.alloc(), word, text.as_bytes())?;
         assert_eq!(rt; sink.written(), want.as_bytes());
         assert_eq!(rt; got, status);
+    }
+    Ok(())
+}
+
+#[test]
+fn writes_cut_histories(rt: HostRuntime) -> Result<(), Fail> {
+    let alloc = rt.alloc();
+    let scenario = read_scenario(alloc, TWO_TASKS.as_bytes())?;
+    let history = run_lowest(alloc, &scenario)?;
+    for (count, want) in [(0, "schedule 1\nlimit\n"), (5, TWO_TASKS_CUT)] {
+        let entries = history.entries().get(..count).ok_or("a longer history")?;
+        let text = write_schedule(alloc, &scenario, entries)?;
+        assert_eq!(rt; text.as_slice(), want.as_bytes());
     }
     Ok(())
 }
