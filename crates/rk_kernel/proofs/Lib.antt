@@ -10,7 +10,6 @@ pub mod Bounds
 pub mod Timing
 pub mod Gentle
 pub mod Sleeping
-pub mod Counts
 pub mod Moving
 pub mod Assigning
 pub mod Soundness

@@ -13,7 +13,7 @@ use Rattle.rk_model.specs.Priorities.{is_eligible, standing, standings, standing
 use Rattle.rk_model.specs.Settling.{is_stay, is_to_end, is_to_front, move_of, moves, makes, making, moved}
 use Rattle.rk_kernel.proofs.Tests.{and_false}
 use Rattle.rk_kernel.specs.Sound.{stands, own, IsGentle}
-use Rattle.rk_kernel.proofs.Counts.{times-append, times-filter, length_by_times, length_filter_le, length_range}
+use Rattle.rk_model.proofs.Counts.{times-append, times-filter, length_by_times, length_filter_le, length_range}
 
 -- the move, by what is asked of a thread: eligible now, eligible before, more urgent, last, less urgent
 abbrev chosen : Bool → Bool → Bool → Bool → Bool → Move

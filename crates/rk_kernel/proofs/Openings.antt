@@ -16,7 +16,7 @@ use Rattle.rk_model.specs.Histories.{begun, places, free_cluster, vacant, starte
 use Rattle.rk_model.specs.Limits.{IsWithinLimits, cpus_in}
 use Rattle.rk_kernel.proofs.Bounds.{none_bounds}
 use Rattle.rk_kernel.specs.Sound.{stands, own, is_timed, AllSound, IsInBounds, IsSound, AllTimed, IsGentle}
-use Rattle.rk_kernel.proofs.Counts.{times-filter}
+use Rattle.rk_model.proofs.Counts.{times-filter}
 use Rattle.rk_kernel.proofs.Tests.{and_false}
 use Rattle.rk_kernel.proofs.Timing.{never_timed, keeps_same}
 use Rattle.rk_kernel.proofs.Soundness.{sound_settled}

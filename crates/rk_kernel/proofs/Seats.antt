@@ -7,7 +7,7 @@ use Rattle.std.proofs.lemmas.Bool.Decides.{nat_tests}
 use Rattle.rk_model.specs.Lists.{has, times}
 use Rattle.rk_model.specs.Lines.{has_cpu, kept, filled, assigned}
 use Rattle.rk_kernel.specs.Laws.{seats}
-use Rattle.rk_kernel.proofs.Counts.{same_either_way, times-append, times-filter, times-has, length_by_times}
+use Rattle.rk_model.proofs.Counts.{same_either_way, times-append, times-filter, times-has, length_by_times}
 
 -- the threads that processors have
 abbrev held : List (Option ℕ) → List ℕ

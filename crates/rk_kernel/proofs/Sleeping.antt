@@ -19,7 +19,7 @@ use Rattle.rk_model.specs.Steps.{directive, back, action_on, action}
 use Rattle.rk_kernel.specs.Sound.{IsSound, IsGentle, is_timed, has_time}
 use Rattle.std.proofs.lemmas.List.{get_or_past, length-map}
 use Rattle.std.proofs.lemmas.Bool.{cases_lt}
-use Rattle.rk_kernel.proofs.Counts.{length_by_times, length_range}
+use Rattle.rk_model.proofs.Counts.{length_by_times, length_range}
 use Rattle.rk_kernel.proofs.Bounds.{bounds_at, line_in, arrived_bounds}
 use Rattle.rk_kernel.proofs.Tests.{and_false}
 use Rattle.rk_kernel.proofs.Timing.{timers_at, never_timed}

@@ -1,0 +1,98 @@
+ghost use Rattle.std.specs.Prelude.{◌≡◌, ◌+◌, ◌-◌, ◌<◌, ◌≤◌, [], None, IfOk, length};
+ghost use Rattle.std.specs.List.{slice_index_or};
+ghost use Rattle.rk_model.specs.Lines.{has_cpu};
+ghost use Rattle.rk_cluster.specs.Registers.{CanSettle};
+ghost use Rattle.rk_cluster.specs.Clusters.{empty_cluster, settled};
+
+use crate::moves::Moves;
+use rk_line::Line;
+use rk_model::{Bounded, Items, NoMemory, ThreadIx};
+use std::alloc::Global;
+use std::marker::Model;
+
+/// A cluster. Contracts see its number, its first processor, its line, and the thread that each of
+/// its processors has.
+#[derive(Debug, Drop)]
+pub struct Cluster {
+    number: u8,
+    first: u8,
+    line: Line,
+    cpus: Items<Option<ThreadIx>>,
+    /// Room for the runners, as they are found.
+    running: Bounded<ThreadIx, 8>,
+}
+
+impl Model for Cluster {
+    ghost use Rattle.rk_cluster.specs.Clusters.{Cluster as ClusterView};
+    ghost use Rattle.std.specs.Prelude.{◌+◌, ◌<◌, ◌≤◌, ◌×◌, length};
+
+    ghost Value = { ClusterView };
+
+    ghost view = { λ c. record { number = c.number; first = c.first; line = c.line; cpus = c.cpus } };
+
+    ghost invariant = { λ c. (c.number < 4) × (c.first + length c.cpus ≤ 8) };
+}
+
+impl Cluster {
+    /// A cluster of so many processors, whose first has the number `first` among those of all
+    /// clusters. Its line is empty, and no processor has a thread.
+    ///
+    /// # Errors
+    ///
+    /// `NoMemory` where there is no memory for its line and processors.
+    pub fn new(alloc: Global, number: u8, first: u8, cpus: u8) -> Result<Cluster, NoMemory>
+        requires number { number < 4 }
+        requires cpus { first + cpus ≤ 8 }
+        ensures { IfOk result (λ c. c ≡ empty_cluster number first cpus) }
+    {
+        todo!()
+    }
+
+    /// Applies the changes to the line, and assigns the processors by it. It takes no memory.
+    pub fn settle(&mut self, moves: &Moves)
+        requires { CanSettle moves.now self.old.line }
+        ensures { self.new ≡ settled moves.now self.old }
+    {
+        todo!()
+    }
+
+    /// The thread of a processor, whose number is among those of all clusters. `None` exactly where
+    /// it has none.
+    pub fn assigned(&self, cpu: u8) -> Option<ThreadIx>
+        requires low { self.now.first ≤ cpu }
+        requires high { cpu < self.now.first + length self.now.cpus }
+        ensures { result ≡ slice_index_or self.now.cpus (cpu - self.now.first) None }
+    {
+        todo!()
+    }
+
+    /// Whether a processor of the cluster has the thread.
+    pub fn is_runner(&self, thread: ThreadIx) -> bool
+        ensures { result ≡ has_cpu self.now.cpus thread }
+    {
+        todo!()
+    }
+
+    /// How many processors the cluster has, at most 8.
+    pub fn cpus(&self) -> u8
+        ensures count { result ≡ length self.now.cpus }
+        ensures few { result ≤ 8 }
+    {
+        todo!()
+    }
+
+    /// The number of its first processor among those of all clusters.
+    pub fn first(&self) -> u8
+        ensures { result ≡ self.now.first }
+    {
+        self.first
+    }
+
+    /// The number of the cluster, from 0 to 3.
+    pub fn number(&self) -> u8
+        ensures value { result ≡ self.now.number }
+        ensures few { result < 4 }
+    {
+        self.number
+    }
+}

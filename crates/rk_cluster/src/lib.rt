@@ -1,0 +1,10 @@
+//! A cluster: its line and the threads of its processors, and how they settle after a change.
+#![tactic(auto)]
+
+mod cluster;
+mod moves;
+#[cfg(test)]
+mod tests;
+
+pub use cluster::Cluster;
+pub use moves::{Change, Moves};
