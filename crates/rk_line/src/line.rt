@@ -53,7 +53,7 @@ impl Line {
     pub fn contains(&self, thread: ThreadIx) -> bool
         ensures { result ≡ has (threads self.now) thread }
     {
-        todo!()
+        unreachable!()
     }
 
     /// Puts a thread behind all others. It takes no memory.
@@ -61,7 +61,7 @@ impl Line {
         requires { has (threads self.old) thread ≡ false }
         ensures { self.new ≡ self.old ++ (record { thread = thread; prio = prio }) ∷ [] }
     {
-        todo!()
+        unreachable!()
     }
 
     /// Puts a thread in front of all others. It takes no memory.
@@ -69,7 +69,7 @@ impl Line {
         requires { has (threads self.old) thread ≡ false }
         ensures { self.new ≡ (record { thread = thread; prio = prio }) ∷ self.old }
     {
-        todo!()
+        unreachable!()
     }
 
     /// Takes a thread out.
@@ -77,7 +77,7 @@ impl Line {
         requires { has (threads self.old) thread ≡ true }
         ensures { self.new ≡ without thread self.old }
     {
-        todo!()
+        unreachable!()
     }
 
     /// Gives a thread another priority at its place.
@@ -85,7 +85,7 @@ impl Line {
         requires { has (threads self.old) thread ≡ true }
         ensures { self.new ≡ with_prio thread prio self.old }
     {
-        todo!()
+        unreachable!()
     }
 
     /// The thread with exactly `n` more urgent ones: those whose priority is less, and those whose
@@ -94,6 +94,6 @@ impl Line {
     pub fn nth_urgent(&self, n: u8) -> Option<ThreadIx>
         ensures { result ≡ nth_urgent (prio_in self.now) n (threads self.now) }
     {
-        todo!()
+        unreachable!()
     }
 }
