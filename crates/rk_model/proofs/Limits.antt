@@ -1,15 +1,51 @@
 -- A scenario that has a text is within the limits.
-use Rattle.std.proofs.Common.{ℕ, ◌<◌, ◌≤◌, List, [], ◌∷◌, length, arith}
+use Rattle.std.proofs.Common.{◌≡◌, ℕ, zero, suc, ◌+◌, ◌<◌, ◌≤◌, List, [], ◌∷◌, ◌++◌, true, slice_get, length, length-append, arith}
 use Rattle.std.specs.List.{AllByRecursion}
+use Rattle.std.proofs.lemmas.Bool.{false≢true}
+use Rattle.rk_model.specs.declared.scenario.Op.{Op}
+use Rattle.rk_model.specs.declared.scenario.Op.TheVariants.{Work, Goto, TaskSuspend, TaskResume, TaskWakeAfter}
 use Rattle.rk_model.specs.declared.scenario.Body.{Body}
 use Rattle.rk_model.specs.declared.scenario.Init.{Init}
 use Rattle.rk_model.specs.declared.scenario.Scenario.{Scenario}
-use Rattle.rk_model.specs.Scenarios.{IsScenario, AreBodies, AreInits}
-use Rattle.rk_model.specs.Limits.{IsWithinLimits}
+use Rattle.rk_model.specs.Scenarios.{IsScenario, IsOp, AreOps, AreBodies, AreInits, IsLimit, may_be_target, is_target}
+use Rattle.rk_model.specs.Limits.{LeadsWithin, IsWithinLimits}
 
 short_bodies : (told : List (List (List ℕ))) (bodies : List Body) → AreBodies told bodies → AllByRecursion (λ (body : Body). length body.lines ≤ 1000) bodies
 short_bodies told [] are = tt
 short_bodies told (body ∷ bodies) are = (are.3.few, short_bodies are.1 bodies are.4)
+
+found_below : (earlier : List Op) (i : ℕ) → may_be_target (slice_get earlier i) ≡ true → i < length earlier
+found_below [] i is = absurd (false≢true is)
+found_below (op ∷ earlier) zero is = omega arith
+found_below (op ∷ earlier) (suc i) is = omega (arith, found_below earlier i is)
+
+-- The target of a goto is the number of one of the lines before it.
+pub target_within : (earlier : List Op) (n : ℕ) → is_target earlier n ≡ true → (1 ≤ n) × (n ≤ length earlier)
+target_within earlier zero is = absurd (false≢true is)
+target_within earlier (suc i) is = (omega arith, omega (arith, found_below earlier i is))
+
+leads : (earlier : List Op) (words : List (List ℕ)) (op : Op) → length earlier ≤ 1000 → IsOp earlier words op → LeadsWithin op
+leads earlier words (Work n) few is = tt
+leads earlier words (Goto target) few is =
+    let within = target_within earlier target is.3 in
+    (within.0, omega (arith, within.1, few))
+leads earlier words (TaskSuspend id) few is = tt
+leads earlier words (TaskResume id) few is = tt
+leads earlier words (TaskWakeAfter n) few is = tt
+
+near_targets : (earlier : List Op) (told : List (List (List ℕ))) (ops : List Op) → length earlier + length ops ≤ 1000 → AreOps earlier told ops → AllByRecursion LeadsWithin ops
+near_targets earlier [] [] few are = tt
+near_targets earlier [] (op ∷ ops) few are = absurd are
+near_targets earlier (words ∷ told) [] few are = absurd are
+near_targets earlier (words ∷ told) (op ∷ ops) few are =
+    let more : length (earlier ++ op ∷ []) + length ops ≤ 1000 = omega (arith, few, length-append earlier (op ∷ [])) in
+    (leads earlier words op (omega (arith, few)) are.0, near_targets (earlier ++ op ∷ []) told ops more are.1)
+
+targets_of : (told : List (List (List ℕ))) (bodies : List Body) → AreBodies told bodies → AllByRecursion (λ (body : Body). AllByRecursion LeadsWithin body.lines) bodies
+targets_of told [] are = tt
+targets_of told (body ∷ bodies) are =
+    let few : 0 + length body.lines ≤ 1000 = omega (arith, are.3.few) in
+    (near_targets [] are.3.inner body.lines few are.3.ops, targets_of are.1 bodies are.4)
 
 near_homes : (s : Scenario) (told : List (List (List ℕ))) (inits : List Init) → AreInits s told inits → AllByRecursion (λ (init : Init). init.cluster < length s.clusters) inits
 near_homes s [] [] are = tt
@@ -17,17 +53,25 @@ near_homes s [] (init ∷ inits) are = absurd are
 near_homes s (words ∷ told) [] are = absurd are
 near_homes s (words ∷ told) (init ∷ inits) are = (are.0.cluster_below, near_homes s told inits are.1)
 
+limit_within : (told : List (List (List ℕ))) (limit : ℕ) → IsLimit told limit → (1 ≤ limit) × (limit ≤ 1000000)
+limit_within [] limit is = (omega (arith, is), omega (arith, is))
+limit_within (words ∷ []) limit is = (is.2.low, is.2.high)
+limit_within (words ∷ more ∷ told) limit is = absurd is
+
 pub limits_of : (s : Scenario) → IsScenario s → IsWithinLimits s
 limits_of s is =
     let lines = is.text.lines in
+    let limit = limit_within lines.limits s.limit lines.limit_is in
     record {
-      some_cluster = rw lines.one_cpu (omega arith);
-      few_clusters = rw lines.one_cpu (omega arith);
-      few_cpus = rw lines.one_cpu (omega arith);
+      some_cluster = lines.some_cluster;
+      few_clusters = lines.few_clusters;
+      few_cpus = lines.few_cpus;
       horizon = omega (arith, lines.ticks_are.number.high);
-      limit = omega (arith, lines.limit);
+      some_limit = limit.0;
+      limit = limit.1;
       few_bodies = lines.few_bodies;
       bodies = short_bodies lines.bodies s.bodies lines.bodies_are;
+      targets = targets_of lines.bodies s.bodies lines.bodies_are;
       few_inits = lines.few_inits;
       homes = near_homes s lines.inits s.inits lines.inits_are;
     }

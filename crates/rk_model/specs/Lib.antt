@@ -1,6 +1,7 @@
 pub mod Status
 pub mod Recorded
 pub mod Lists
+pub mod Ids
 pub mod State
 pub mod Priorities
 pub mod Lines

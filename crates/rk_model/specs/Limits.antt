@@ -1,14 +1,20 @@
 -- The limits that every scenario keeps.
-use Rattle.std.specs.Prelude.{ℕ, ◌+◌, ◌<◌, ◌≤◌, List, [], ◌∷◌, length}
+use Rattle.std.specs.Prelude.{◌<◌, ◌≤◌, length}
 use Rattle.std.specs.List.{AllByRecursion}
 use Rattle.rk_model.specs.declared.scenario.Body.{Body}
 use Rattle.rk_model.specs.declared.scenario.Init.{Init}
+use Rattle.rk_model.specs.declared.scenario.Op.{Op}
+use Rattle.rk_model.specs.declared.scenario.Op.TheVariants.{Work, Goto, TaskSuspend, TaskResume, TaskWakeAfter}
 use Rattle.rk_model.specs.declared.scenario.Scenario.{Scenario}
+use Rattle.rk_model.specs.Scenarios.{cpus_in}
 
--- the processors of all clusters
-abbrev pub cpus_in : List ℕ → ℕ
-cpus_in [] = 0
-cpus_in (m ∷ ms) = m + cpus_in ms
+-- a goto leads to a line from 1 to 1,000
+abbrev pub LeadsWithin : Op → Type 0
+LeadsWithin (Work n) = Unit {0}
+LeadsWithin (Goto target) = (1 ≤ target) × (target ≤ 1000)
+LeadsWithin (TaskSuspend id) = Unit {0}
+LeadsWithin (TaskResume id) = Unit {0}
+LeadsWithin (TaskWakeAfter n) = Unit {0}
 
 -- What the rest of the kernel relies on: the least and the greatest numbers of things.
 pub record IsWithinLimits (s : Scenario) : Type 0 where
@@ -16,8 +22,10 @@ pub record IsWithinLimits (s : Scenario) : Type 0 where
   pub few_clusters : length s.clusters ≤ 4
   pub few_cpus : cpus_in s.clusters ≤ 8
   pub horizon : s.horizon ≤ 1000000
+  pub some_limit : 1 ≤ s.limit
   pub limit : s.limit ≤ 1000000
   pub few_bodies : length s.bodies ≤ 32
   pub bodies : AllByRecursion (λ (body : Body). length body.lines ≤ 1000) s.bodies
+  pub targets : AllByRecursion (λ (body : Body). AllByRecursion LeadsWithin body.lines) s.bodies
   pub few_inits : length s.inits ≤ 64
   pub homes : AllByRecursion (λ (init : Init). init.cluster < length s.clusters) s.inits

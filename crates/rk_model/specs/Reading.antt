@@ -2,14 +2,16 @@
 use Rattle.std.specs.Prelude.{ℕ, ◌+◌, List, [], ◌∷◌, ◌++◌, Bool, false, ◌&&◌, not, Option, Some, None, Result, Ok, Err, is_some, nat_lt, nat_le, length, codes, if◌then◌else◌}
 use Rattle.std.specs.Str.{bytes_eq}
 use Rattle.rk_model.specs.declared.scenario.Op.{Op}
-use Rattle.rk_model.specs.declared.scenario.Op.TheVariants.{Work, TaskWakeAfter}
+use Rattle.rk_model.specs.declared.scenario.Op.TheVariants.{Work, Goto, TaskSuspend, TaskResume, TaskWakeAfter}
+use Rattle.rk_model.specs.declared.scenario.Target.{Target}
+use Rattle.rk_model.specs.declared.scenario.Target.TheVariants.{Own, Given}
 use Rattle.rk_model.specs.declared.scenario.Body.{Body}
 use Rattle.rk_model.specs.declared.scenario.Init.{Init}
 use Rattle.rk_model.specs.declared.scenario.Scenario.{Scenario}
 use Rattle.rk_model.specs.declared.scenario.ScenarioWhy.{ScenarioWhy}
 use Rattle.rk_model.specs.declared.scenario.ScenarioWhy.TheVariants.{Header, TooLarge, NotYetBuilt}
 use Rattle.rk_model.specs.Words.{lines_of, words_of, is_plain, is_skipped, number_of, name_of, is_body_name}
-use Rattle.rk_model.specs.Scenarios.{body_of}
+use Rattle.rk_model.specs.Scenarios.{body_of, cpus_in, is_target}
 
 -- How far the lines have come that aren't skipped.
 pub data Phase : Type 0 where
@@ -19,8 +21,10 @@ pub data Phase : Type 0 where
   Headed : Phase
   -- a cluster
   Clustered : Phase
-  -- the ticks, and whole bodies
+  -- the ticks
   Timed : Phase
+  -- the limit, or a whole body
+  Limited : Phase
   -- the first line of a body, and not its `end`
   InBody : Phase
   -- an init line
@@ -75,6 +79,23 @@ number_operand least most word = within least most (number_of word)
 unfoldable pub cluster_operand : ℕ → List ℕ → Result ℕ ScenarioWhy
 cluster_operand count word = below count (number_of word)
 
+-- an ID: `self`, or a number
+unfoldable pub id_operand : List ℕ → Result Target ScenarioWhy
+id_operand word =
+    if bytes_eq word (codes "self") then Ok Own
+    else (do
+      bits ← number_operand 0 4294967295 word
+      Ok (Given bits))
+
+-- the number of one of these earlier lines that isn't a goto
+abbrev pub led : List Op → Option ℕ → Result ℕ ScenarioWhy
+led earlier None = Err NotYetBuilt
+led earlier (Some n) = if is_target earlier n then Ok n else Err NotYetBuilt
+
+-- the number that a word spells of one of these earlier lines that isn't a goto
+unfoldable pub goto_operand : List Op → List ℕ → Result ℕ ScenarioWhy
+goto_operand earlier word = led earlier (number_of word)
+
 -- the name that a word spells
 unfoldable pub name_operand : List ℕ → Result ℕ ScenarioWhy
 name_operand word = known (name_of word)
@@ -101,12 +122,39 @@ wake_after_line (ticks ∷ []) = do
   Ok (TaskWakeAfter n)
 wake_after_line (ticks ∷ more ∷ words) = Err NotYetBuilt
 
--- what a line of a body stands for, by its words
-unfoldable pub op_line : List (List ℕ) → Result Op ScenarioWhy
-op_line [] = Err NotYetBuilt
-op_line (first ∷ operands) =
+-- `goto K`
+unfoldable pub goto_line : List Op → List (List ℕ) → Result Op ScenarioWhy
+goto_line earlier [] = Err NotYetBuilt
+goto_line earlier (target ∷ []) = do
+  n ← goto_operand earlier target
+  Ok (Goto n)
+goto_line earlier (target ∷ more ∷ words) = Err NotYetBuilt
+
+-- `task.suspend ID`
+unfoldable pub suspend_line : List (List ℕ) → Result Op ScenarioWhy
+suspend_line [] = Err NotYetBuilt
+suspend_line (word ∷ []) = do
+  id ← id_operand word
+  Ok (TaskSuspend id)
+suspend_line (word ∷ more ∷ words) = Err NotYetBuilt
+
+-- `task.resume ID`
+unfoldable pub resume_line : List (List ℕ) → Result Op ScenarioWhy
+resume_line [] = Err NotYetBuilt
+resume_line (word ∷ []) = do
+  id ← id_operand word
+  Ok (TaskResume id)
+resume_line (word ∷ more ∷ words) = Err NotYetBuilt
+
+-- what a line of a body stands for behind these earlier lines, by its words
+unfoldable pub op_line : List Op → List (List ℕ) → Result Op ScenarioWhy
+op_line earlier [] = Err NotYetBuilt
+op_line earlier (first ∷ operands) =
     if bytes_eq first (codes "work") then work_line operands
-    else (if bytes_eq first (codes "task.wake_after") then wake_after_line operands else Err NotYetBuilt)
+    else (if bytes_eq first (codes "goto") then goto_line earlier operands
+    else (if bytes_eq first (codes "task.suspend") then suspend_line operands
+    else (if bytes_eq first (codes "task.resume") then resume_line operands
+    else (if bytes_eq first (codes "task.wake_after") then wake_after_line operands else Err NotYetBuilt))))
 
 -- ---- the lines of a scenario, each by the words behind its first: the draft after it
 
@@ -125,17 +173,25 @@ with_cluster d m = record d { phase = Clustered; scenario = record d.scenario { 
 unfoldable pub cluster_line : Draft → List (List ℕ) → Result Draft ScenarioWhy
 cluster_line d [] = Err NotYetBuilt
 cluster_line d (count ∷ []) = do
-  m ← number_operand 1 1 count
-  if nat_lt (length d.scenario.clusters) 1 then Ok (with_cluster d m) else Err NotYetBuilt
+  m ← number_operand 1 8 count
+  if nat_lt (length d.scenario.clusters) 4 && nat_le (cpus_in d.scenario.clusters + m) 8 then Ok (with_cluster d m) else Err NotYetBuilt
 cluster_line d (count ∷ more ∷ words) = Err NotYetBuilt
 
 -- `ticks N`
 unfoldable pub ticks_line : Draft → List (List ℕ) → Result Draft ScenarioWhy
 ticks_line d [] = Err NotYetBuilt
 ticks_line d (ticks ∷ []) = do
-  n ← number_operand 0 1000 ticks
+  n ← number_operand 0 1000000 ticks
   Ok (record d { phase = Timed; scenario = record d.scenario { horizon = n } })
 ticks_line d (ticks ∷ more ∷ words) = Err NotYetBuilt
+
+-- `limit N`
+unfoldable pub limit_line : Draft → List (List ℕ) → Result Draft ScenarioWhy
+limit_line d [] = Err NotYetBuilt
+limit_line d (number ∷ []) = do
+  n ← number_operand 1 1000000 number
+  Ok (record d { phase = Limited; scenario = record d.scenario { limit = n } })
+limit_line d (number ∷ more ∷ words) = Err NotYetBuilt
 
 -- `body B`, with a name that no body has so far
 unfoldable pub body_line : Draft → List (List ℕ) → Result Draft ScenarioWhy
@@ -155,7 +211,7 @@ is_end (first ∷ second ∷ words) = false
 
 -- the draft in which the open body has become one of the bodies
 abbrev pub with_body : Draft → Draft
-with_body d = record d { phase = Timed; scenario = record d.scenario { bodies = d.scenario.bodies ++ d.body ∷ [] }; body = no_body }
+with_body d = record d { phase = Limited; scenario = record d.scenario { bodies = d.scenario.bodies ++ d.body ∷ [] }; body = no_body }
 
 -- the draft in which the open body has one line more
 abbrev pub with_op : Draft → Op → Draft
@@ -164,7 +220,7 @@ with_op d op = record d { body = record d.body { lines = d.body.lines ++ op ∷ 
 -- a line of the open body that isn't its `end`
 unfoldable pub inner_line : Draft → List (List ℕ) → Result Draft ScenarioWhy
 inner_line d words = do
-  op ← op_line words
+  op ← op_line d.body.lines words
   if nat_lt (length d.body.lines) 1000 then Ok (with_op d op) else Err NotYetBuilt
 
 -- what the words behind `init` stand for
@@ -202,10 +258,10 @@ abbrev pub at_headed : Draft → List (List ℕ) → Result Draft ScenarioWhy
 at_headed d [] = Err NotYetBuilt
 at_headed d (first ∷ operands) = if bytes_eq first (codes "cluster") then cluster_line d operands else Err NotYetBuilt
 
--- the ticks
+-- the ticks, or another cluster
 abbrev pub at_clustered : Draft → List (List ℕ) → Result Draft ScenarioWhy
 at_clustered d [] = Err NotYetBuilt
-at_clustered d (first ∷ operands) = if bytes_eq first (codes "ticks") then ticks_line d operands else Err NotYetBuilt
+at_clustered d (first ∷ operands) = if bytes_eq first (codes "ticks") then ticks_line d operands else at_headed d (first ∷ operands)
 
 -- an init
 abbrev pub at_inits : Draft → List (List ℕ) → Result Draft ScenarioWhy
@@ -213,9 +269,14 @@ at_inits d [] = Err NotYetBuilt
 at_inits d (first ∷ operands) = if bytes_eq first (codes "init") then init_line d operands else Err NotYetBuilt
 
 -- a body or an init
+abbrev pub at_limited : Draft → List (List ℕ) → Result Draft ScenarioWhy
+at_limited d [] = Err NotYetBuilt
+at_limited d (first ∷ operands) = if bytes_eq first (codes "body") then body_line d operands else at_inits d (first ∷ operands)
+
+-- the limit, a body or an init
 abbrev pub at_timed : Draft → List (List ℕ) → Result Draft ScenarioWhy
 at_timed d [] = Err NotYetBuilt
-at_timed d (first ∷ operands) = if bytes_eq first (codes "body") then body_line d operands else at_inits d (first ∷ operands)
+at_timed d (first ∷ operands) = if bytes_eq first (codes "limit") then limit_line d operands else at_limited d (first ∷ operands)
 
 -- the end of the open body, or a line of it
 abbrev pub in_body : Draft → List (List ℕ) → Result Draft ScenarioWhy
@@ -227,6 +288,7 @@ after_told Start d words = at_start d words
 after_told Headed d words = at_headed d words
 after_told Clustered d words = at_clustered d words
 after_told Timed d words = at_timed d words
+after_told Limited d words = at_limited d words
 after_told InBody d words = in_body d words
 after_told InInits d words = at_inits d words
 
@@ -256,6 +318,7 @@ at_end Start s n = Faults (record { line = n; why = Header })
 at_end Headed s n = Faults (record { line = n; why = NotYetBuilt })
 at_end Clustered s n = Faults (record { line = n; why = NotYetBuilt })
 at_end Timed s n = Reads s
+at_end Limited s n = Reads s
 at_end InBody s n = Faults (record { line = n; why = NotYetBuilt })
 at_end InInits s n = Reads s
 

@@ -1,9 +1,11 @@
 -- The text of a scenario: a relation between the words of its lines and the scenario.
-use Rattle.std.specs.Prelude.{ℕ, ◌+◌, ◌≡◌, ◌≤◌, ◌<◌, List, [], ◌∷◌, ◌++◌, Bool, true, not, Option, Some, None, length, codes, map, filter, if◌then◌else◌}
+use Rattle.std.specs.Prelude.{ℕ, zero, suc, ◌+◌, ◌≡◌, ◌≤◌, ◌<◌, List, [], ◌∷◌, ◌++◌, Bool, true, false, not, Option, Some, None, slice_get, length, codes, map, filter, if◌then◌else◌}
 use Rattle.std.specs.List.{AllByRecursion}
 use Rattle.std.specs.Str.{bytes_eq}
 use Rattle.rk_model.specs.declared.scenario.Op.{Op}
-use Rattle.rk_model.specs.declared.scenario.Op.TheVariants.{Work, TaskWakeAfter}
+use Rattle.rk_model.specs.declared.scenario.Op.TheVariants.{Work, Goto, TaskSuspend, TaskResume, TaskWakeAfter}
+use Rattle.rk_model.specs.declared.scenario.Target.{Target}
+use Rattle.rk_model.specs.declared.scenario.Target.TheVariants.{Own, Given}
 use Rattle.rk_model.specs.declared.scenario.Body.{Body}
 use Rattle.rk_model.specs.declared.scenario.Init.{Init}
 use Rattle.rk_model.specs.declared.scenario.Scenario.{Scenario}
@@ -19,17 +21,39 @@ pub record IsNumber (word : List ℕ) (n least most : ℕ) : Type 0 where
   pub low : least ≤ n
   pub high : n ≤ most
 
--- The words are those of a line of a body: `work N`, `task.wake_after TICKS`.
-abbrev pub IsOp : List (List ℕ) → Op → Type 0
-IsOp words (Work n) = (ticks : List ℕ) × (words ≡ codes "work" ∷ ticks ∷ []) × IsNumber ticks n 1 1000000
-IsOp words (TaskWakeAfter n) = (ticks : List ℕ) × (words ≡ codes "task.wake_after" ∷ ticks ∷ []) × IsNumber ticks n 0 4294967295
+-- The word is an ID: `self`, or a number.
+abbrev pub IsId : List ℕ → Target → Type 0
+IsId word Own = word ≡ codes "self"
+IsId word (Given bits) = IsNumber word bits 0 4294967295
 
--- The lines are those of the ops, one each.
-abbrev pub AreOps : List (List (List ℕ)) → List Op → Type 0
-AreOps [] [] = Unit {0}
-AreOps [] (op ∷ ops) = ⊥
-AreOps (words ∷ told) [] = ⊥
-AreOps (words ∷ told) (op ∷ ops) = IsOp words op × AreOps told ops
+-- whether a goto may lead to what stands at a line: anything but a goto
+abbrev pub may_be_target : Option Op → Bool
+may_be_target None = false
+may_be_target (Some (Work n)) = true
+may_be_target (Some (Goto target)) = false
+may_be_target (Some (TaskSuspend id)) = true
+may_be_target (Some (TaskResume id)) = true
+may_be_target (Some (TaskWakeAfter n)) = true
+
+-- whether this is the number, from 1, of one of these earlier lines that isn't a goto
+abbrev pub is_target : List Op → ℕ → Bool
+is_target earlier zero = false
+is_target earlier (suc i) = may_be_target (slice_get earlier i)
+
+-- The words are those of a line of a body, behind these earlier lines of it: `work N`, `goto K`, `task.suspend ID`, `task.resume ID`, `task.wake_after TICKS`.
+abbrev pub IsOp : List Op → List (List ℕ) → Op → Type 0
+IsOp earlier words (Work n) = (ticks : List ℕ) × (words ≡ codes "work" ∷ ticks ∷ []) × IsNumber ticks n 1 1000000
+IsOp earlier words (Goto target) = (number : List ℕ) × (words ≡ codes "goto" ∷ number ∷ []) × (number_of number ≡ Some target) × (is_target earlier target ≡ true)
+IsOp earlier words (TaskSuspend id) = (word : List ℕ) × (words ≡ codes "task.suspend" ∷ word ∷ []) × IsId word id
+IsOp earlier words (TaskResume id) = (word : List ℕ) × (words ≡ codes "task.resume" ∷ word ∷ []) × IsId word id
+IsOp earlier words (TaskWakeAfter n) = (ticks : List ℕ) × (words ≡ codes "task.wake_after" ∷ ticks ∷ []) × IsNumber ticks n 0 4294967295
+
+-- The lines are those of the ops, one each, behind these earlier lines of the body.
+abbrev pub AreOps : List Op → List (List (List ℕ)) → List Op → Type 0
+AreOps earlier [] [] = Unit {0}
+AreOps earlier [] (op ∷ ops) = ⊥
+AreOps earlier (words ∷ told) [] = ⊥
+AreOps earlier (words ∷ told) (op ∷ ops) = IsOp earlier words op × AreOps (earlier ++ op ∷ []) told ops
 
 -- The lines are those of a body: `body B`, at most 1,000 lines, and `end`.
 pub record IsBody (told : List (List (List ℕ))) (body : Body) : Type 0 where
@@ -37,7 +61,7 @@ pub record IsBody (told : List (List (List ℕ))) (body : Body) : Type 0 where
   pub told_is : told ≡ (codes "body" ∷ body.name ∷ []) ∷ inner ++ (codes "end" ∷ []) ∷ []
   pub name : is_body_name body.name ≡ true
   pub few : length body.lines ≤ 1000
-  pub ops : AreOps inner body.lines
+  pub ops : AreOps [] inner body.lines
 
 -- The lines are those of the bodies, one after another.
 abbrev pub AreBodies : List (List (List ℕ)) → List Body → Type 0
@@ -93,23 +117,37 @@ AreClusters [] (m ∷ ms) = ⊥
 AreClusters (words ∷ told) [] = ⊥
 AreClusters (words ∷ told) (m ∷ ms) = IsCluster words m × AreClusters told ms
 
+-- the processors of all clusters
+abbrev pub cpus_in : List ℕ → ℕ
+cpus_in [] = 0
+cpus_in (m ∷ ms) = m + cpus_in ms
+
 -- The words are those of a line `ticks N`.
 pub record IsTicks (words : List (List ℕ)) (horizon : ℕ) : Type 0 where
   pub ticks : List ℕ
   pub words_are : words ≡ codes "ticks" ∷ ticks ∷ []
-  pub number : IsNumber ticks horizon 0 1000
+  pub number : IsNumber ticks horizon 0 1000000
 
--- The lines, in this order: `rtems 1`; one cluster of one processor; `ticks N`; at most 32 bodies with different names; at most 64 init lines. The limit is 200,000.
+-- The lines are one line `limit N`, or none, and then the limit is 200,000.
+abbrev pub IsLimit : List (List (List ℕ)) → ℕ → Type 0
+IsLimit [] limit = limit ≡ 200000
+IsLimit (words ∷ []) limit = (number : List ℕ) × (words ≡ codes "limit" ∷ number ∷ []) × IsNumber number limit 1 1000000
+IsLimit (words ∷ more ∷ told) limit = ⊥
+
+-- The lines, in this order: `rtems 1`; one to four clusters with at most 8 processors in all; `ticks N`; at most one `limit N`; at most 32 bodies with different names; at most 64 init lines.
 pub record Tells (told : List (List (List ℕ))) (s : Scenario) : Type 0 where
   pub clusters : List (List (List ℕ))
   pub ticks : List (List ℕ)
+  pub limits : List (List (List ℕ))
   pub bodies : List (List (List ℕ))
   pub inits : List (List (List ℕ))
-  pub told_is : told ≡ (codes "rtems" ∷ codes "1" ∷ []) ∷ clusters ++ ticks ∷ bodies ++ inits
+  pub told_is : told ≡ (codes "rtems" ∷ codes "1" ∷ []) ∷ clusters ++ ticks ∷ limits ++ bodies ++ inits
   pub clusters_are : AreClusters clusters s.clusters
-  pub one_cpu : s.clusters ≡ 1 ∷ []
+  pub some_cluster : 0 < length s.clusters
+  pub few_clusters : length s.clusters ≤ 4
+  pub few_cpus : cpus_in s.clusters ≤ 8
   pub ticks_are : IsTicks ticks s.horizon
-  pub limit : s.limit ≡ 200000
+  pub limit_is : IsLimit limits s.limit
   pub bodies_are : AreBodies bodies s.bodies
   pub few_bodies : length s.bodies ≤ 32
   pub distinct : AreDistinct s.bodies

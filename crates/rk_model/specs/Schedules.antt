@@ -4,7 +4,7 @@ use Rattle.std.specs.Fmt.{decimal, digits}
 use Rattle.rk_model.specs.declared.scenario.Scenario.{Scenario}
 use Rattle.rk_model.specs.declared.scenario.Body.{Body}
 use Rattle.rk_model.specs.declared.scenario.Op.{Op}
-use Rattle.rk_model.specs.declared.scenario.Op.TheVariants.{Work, TaskWakeAfter}
+use Rattle.rk_model.specs.declared.scenario.Op.TheVariants.{Work, Goto, TaskSuspend, TaskResume, TaskWakeAfter}
 use Rattle.rk_model.specs.declared.entry.Entry.{Entry}
 use Rattle.rk_model.specs.declared.entry.View.{View}
 use Rattle.rk_model.specs.declared.entry.View.TheVariants.{Idle, Spins, Runs}
@@ -23,6 +23,9 @@ name_in (Some body) = body.name
 unfoldable pub word_of : Option Op → List ℕ
 word_of None = codes "task.exit"
 word_of (Some (Work n)) = codes "work"
+word_of (Some (Goto target)) = codes "goto"
+word_of (Some (TaskSuspend id)) = codes "task.suspend"
+word_of (Some (TaskResume id)) = codes "task.resume"
 word_of (Some (TaskWakeAfter n)) = codes "task.wake_after"
 
 -- a status and an out number

@@ -1,7 +1,7 @@
 -- What a seat does: a directive of a processor, a tick, or the end.
 use Rattle.std.specs.Prelude.{ℕ, [], Option, Some, None, nat_lt, ◌==◌, if◌then◌else◌}
 use Rattle.rk_model.specs.declared.scenario.Op.{Op}
-use Rattle.rk_model.specs.declared.scenario.Op.TheVariants.{Work, TaskWakeAfter}
+use Rattle.rk_model.specs.declared.scenario.Op.TheVariants.{Work, Goto, TaskSuspend, TaskResume, TaskWakeAfter}
 use Rattle.rk_model.specs.declared.entry.Entry.{Entry}
 use Rattle.rk_model.specs.declared.entry.Reply.{Reply}
 use Rattle.rk_model.specs.declared.entry.What.{What}
@@ -11,13 +11,16 @@ use Rattle.rk_model.specs.State.{Plain, thread_at, put_thread, op_at}
 use Rattle.rk_model.specs.Settling.{settle}
 use Rattle.rk_model.specs.Running.{caller, least}
 use Rattle.rk_model.specs.Outcomes.{Outcome, gone_on}
-use Rattle.rk_model.specs.Tasks.{task_exit, task_wake_after}
+use Rattle.rk_model.specs.Tasks.{task_exit, task_suspend, task_resume, task_wake_after}
 use Rattle.rk_model.specs.Ticks.{tick}
 
--- What the line of a body does; behind the last line it is the exit. A thread at a line of work computes and has no action; for it this says the exit, only so that there is something.
+-- What the line of a body does; behind the last line it is the exit. A thread at a line of work computes and has no action, and no thread is at a goto; for them this says the exit, only so that there is something.
 abbrev pub directive : Plain → ℕ → Option Op → Outcome
 directive k t None = task_exit k t
 directive k t (Some (Work n)) = task_exit k t
+directive k t (Some (Goto target)) = task_exit k t
+directive k t (Some (TaskSuspend id)) = task_suspend k t id
+directive k t (Some (TaskResume id)) = task_resume k t id
 directive k t (Some (TaskWakeAfter n)) = task_wake_after k t n
 
 -- the thread returns from a directive that waited, with its reply, and goes on

@@ -8,6 +8,7 @@
 mod bounded;
 mod entry;
 mod history;
+mod ids;
 mod items;
 pub mod laws;
 mod memory;
@@ -22,11 +23,12 @@ mod tests;
 pub use bounded::Bounded;
 pub use entry::{Entry, Reply, View, What, Why};
 pub use history::History;
+pub use ids::{Class, Id};
 pub use items::Items;
 pub use memory::NoMemory;
 pub use numbers::{Name, Prio, ThreadIx};
 pub use scenario::{
-    Bodies, Body, BodyName, Clusters, Init, Inits, Lines, Op, Scenario, ScenarioWhy,
+    Bodies, Body, BodyName, Clusters, Init, Inits, Lines, Op, Scenario, ScenarioWhy, Target,
 };
 pub use settling::{Move, Standing};
 pub use state::{Armed, Armer, Life, Thread, Wait};

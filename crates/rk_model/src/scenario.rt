@@ -19,11 +19,28 @@ pub type Bodies = Items<Body>;
 /// The tasks that there are at opening, in their order.
 pub type Inits = Items<Init>;
 
+/// Which object a directive asks for.
+#[derive(Clone, Copy, Debug, PartialEq, Eq)]
+pub enum Target {
+    /// `self`: the task that calls the directive.
+    Own,
+    /// The bits of an id. Where a task is asked for, 0 (`RTEMS_SELF`) is the task that calls the
+    /// directive.
+    Given(u32),
+}
+
 /// A line of a body.
 #[derive(Clone, Copy, Debug, PartialEq, Eq)]
 pub enum Op {
     /// `work N`: computes for so many ticks, from 1 to 1,000,000.
     Work(u32),
+    /// `goto K`: a task that would arrive here arrives at line K of the body, which is an earlier
+    /// line and no `goto`.
+    Goto(u32),
+    /// `task.suspend ID` (`rtems_task_suspend`): suspends a task until it is resumed.
+    TaskSuspend(Target),
+    /// `task.resume ID` (`rtems_task_resume`): lets a suspended task go on.
+    TaskResume(Target),
     /// `task.wake_after TICKS` (`rtems_task_wake_after`): sleeps for so many ticks, from 1 to
     /// 4,294,967,295; with 0 (`RTEMS_YIELD_PROCESSOR`) it goes to the end of its priority.
     TaskWakeAfter(u32),
@@ -58,7 +75,7 @@ pub struct Scenario {
     pub clusters: Clusters,
     /// The tick at which the run ends, at most 1,000,000.
     pub horizon: u32,
-    /// The greatest number of entries of a history, at most 1,000,000.
+    /// The greatest number of entries of a history, from 1 to 1,000,000.
     pub limit: u32,
     /// The scripts that the tasks run.
     pub bodies: Bodies,
