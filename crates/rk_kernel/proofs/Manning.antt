@@ -10,7 +10,7 @@ use Rattle.rk_model.specs.declared.entry.View.TheVariants.{Spins, Runs}
 use Rattle.rk_model.specs.declared.state.Thread.{Thread}
 use Rattle.rk_model.specs.Lists.{times}
 use Rattle.rk_model.specs.State.{Plain, ClusterState, no_thread, no_cluster, thread_at, cluster_at}
-use Rattle.rk_model.specs.Priorities.{is_eligible, spins, prio, or_zero, home_prio, standing, standings, standings_from, no_standing, nth_standing}
+use Rattle.rk_model.specs.Priorities.{is_eligible, spins, prio, or_least_urgent, home_prio, standing, standings, standings_from, no_standing, nth_standing}
 use Rattle.rk_model.specs.Lines.{most_urgent, assigned}
 use Rattle.rk_model.specs.Settling.{moves, moved, key_of, settled_from, settle}
 use Rattle.rk_model.specs.Running.{all_cpus, cpu_at, view_of}
@@ -86,7 +86,7 @@ other_key key key' clusters same manned = let e : key ≡ key' = λ i t. same t 
 
 home_prio-pass : (k : Plain) (t : ℕ) → home_prio k t ≡ home_prio (pass k) t
 unfolding home_prio prio
-home_prio-pass k t = sym (passed_steady (λ (x : Thread). or_zero (cond (x.home == x.home) (Some x.base) None)) k t (λ _ _ _ _. refl))
+home_prio-pass k t = sym (passed_steady (λ (x : Thread). or_least_urgent (cond (x.home == x.home) (Some x.base) None)) k t (λ _ _ _ _. refl))
 
 kept_manned : IsKept AreManned
 kept_manned = record {

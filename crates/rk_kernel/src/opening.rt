@@ -9,7 +9,7 @@ use crate::core_state::{ClusterPart, Core, Line, Scratch, Timers};
 use crate::places::arrive;
 use crate::settle::settle_core;
 use crate::standing::note_all;
-use rk_model::{Body, Init, Items, Life, NoMemory, Scenario, Standing, Thread};
+use rk_model::{Body, Init, Items, Life, NoMemory, Prio, Scenario, Standing, Thread};
 use std::alloc::Global;
 
 /// A body that equals this one.
@@ -98,7 +98,7 @@ fn begin(scenario: &Scenario, init: &Init) -> Thread
     let thread = Thread {
         life: Life::Started,
         home: init.cluster,
-        base: init.prio.level(),
+        base: init.prio,
         body: init.body,
         ..Thread::absent()
     };
@@ -125,7 +125,7 @@ pub(crate) fn make_scratch(alloc: Global) -> Result<Scratch, NoMemory>
 {
     let none = Standing {
         eligible: false,
-        prio: 0,
+        prio: Prio::least_urgent(),
     };
     Ok(Scratch {
         before: Items::from_vec(vec![in alloc; none; 64]?),

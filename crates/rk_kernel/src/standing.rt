@@ -40,7 +40,7 @@ fn eligible(core: &Core, thread: ThreadIx) -> bool
 
 /// The priority of the thread in a cluster, if it has one there.
 #[tactic(auto, unfolding(rk_model::specs::Priorities::prio))]
-fn prio_of(core: &Core, thread: ThreadIx, cluster: u8) -> Option<u8>
+fn prio_of(core: &Core, thread: ThreadIx, cluster: u8) -> Option<Prio>
     ensures { result ≡ prio (plain_of core.now) thread cluster }
 {
     let found = thread_of(core.threads.as_slice(), thread);
@@ -51,15 +51,15 @@ fn prio_of(core: &Core, thread: ThreadIx, cluster: u8) -> Option<u8>
     }
 }
 
-/// The priority of the thread in its home; 0 where it has none.
+/// The priority of the thread in its home; the least urgent one where it has none.
 #[tactic(auto, unfolding(rk_model::specs::Priorities::home_prio))]
-fn prio_at_home(core: &Core, thread: ThreadIx) -> u8
+fn prio_at_home(core: &Core, thread: ThreadIx) -> Prio
     ensures { result ≡ home_prio (plain_of core.now) thread }
 {
     let home = thread_of(core.threads.as_slice(), thread).home;
     match prio_of(core, thread, home) {
         Some(prio) => prio,
-        None => 0,
+        None => Prio::least_urgent(),
     }
 }
 
@@ -93,7 +93,7 @@ pub(crate) fn nth_of(standings: &[Standing], thread: ThreadIx) -> Standing
         Some(found) => *found,
         None => Standing {
             eligible: false,
-            prio: 0,
+            prio: Prio::least_urgent(),
         },
     }
 }

@@ -24,7 +24,7 @@ pub record Plain : Type 0 where
 
 -- what stands where there is no thread
 abbrev pub no_thread : Thread
-no_thread = record { life = Absent; home = 0; base = 0; body = 0; line = 0; left = 0; wait = None; finished = None; suspended = false; computed = 0 }
+no_thread = record { life = Absent; home = 0; base = 255; body = 0; line = 0; left = 0; wait = None; finished = None; suspended = false; computed = 0 }
 
 -- what stands where there is no cluster
 abbrev pub no_cluster : ClusterState

@@ -1,5 +1,5 @@
 use crate::entry::Reply;
-use crate::numbers::ThreadIx;
+use crate::numbers::{Prio, ThreadIx};
 
 /// How far a task's life has come.
 #[derive(Clone, Copy, Debug, PartialEq, Eq)]
@@ -28,8 +28,8 @@ pub struct Thread {
     pub life: Life,
     /// The number of the cluster that it runs in, from 0.
     pub home: u8,
-    /// Its base priority, from 1, the most urgent, to 255; 0 where there is no task.
-    pub base: u8,
+    /// Its base priority; 255 where there is no task.
+    pub base: Prio,
     /// The number of its body, from 0.
     pub body: u8,
     /// The line of its body at which it is, from 1.
@@ -57,7 +57,7 @@ impl Thread {
         Thread {
             life: Life::Absent,
             home: 0,
-            base: 0,
+            base: Prio::least_urgent(),
             body: 0,
             line: 0,
             left: 0,
