@@ -2,7 +2,6 @@ pub mod Tests
 pub mod Scans
 pub mod Pieces
 pub mod Noting
-pub mod Ranges
 pub mod Clusters
 pub mod Settling
 pub mod Indices
@@ -19,7 +18,9 @@ pub mod Ready
 pub mod Passing
 pub mod Firings
 pub mod Runs
-pub mod Sorting
+pub mod Keys
+pub mod Registering
+pub mod Filling
 pub mod Reached
 pub mod Belonging
 pub mod Seats

@@ -7,29 +7,33 @@ use Rattle.rk_model.specs.Priorities.{standings}
 use Rattle.rk_model.specs.Settling.{moves, settle, settle_by}
 use Rattle.rk_kernel.specs.declared.core_state.Core.{Core}
 use Rattle.rk_kernel.specs.Pieces.{cluster_of, clusters_of, plain_of}
-use Rattle.rk_kernel.specs.Room.{AllRoomy}
+use Rattle.rk_kernel.specs.Settleable.{AllSettleable}
 use Rattle.rk_kernel.specs.Sound.{IsSound, IsGentle}
 use Rattle.rk_kernel.proofs.Moving.{length-standings}
-use Rattle.rk_kernel.proofs.Soundness.{roomy_settled, sound_settled, length-kept, length-settled}
+use Rattle.rk_kernel.proofs.Soundness.{settleable, sound_settled, length-kept, length-settled}
+
+-- a list that notes how the threads stand has 64 places
+pub noted_length : (k : Plain) (stood : List Standing) → IsSound k → stood ≡ standings k → length stood ≡ 64
+noted_length k stood sound stands = ap length stands ∙ length-standings k 1 (length k.threads) ∙ sound.places
 
 -- what settling asks of the pieces
-pub record IsReady (core : Core) (stood : List Standing) (last : List ℕ) : Type 0 where
+pub record IsReady (core : Core) (stood : List Standing) : Type 0 where
   pub places : length core.threads ≡ 64
-  pub few : length core.threads ≤ 64
+  pub before : length stood ≡ 64
   pub clusters : length core.clusters ≤ 4
-  pub room : AllRoomy (moves stood (standings (plain_of core)) last) core.threads 0 (clusters_of core.clusters)
+  pub lines : AllSettleable stood core.threads 0 (clusters_of core.clusters)
 
-pub ready : (k next : Plain) (core : Core) (stood : List Standing) (last : List ℕ) → IsSound k → IsGentle k next → plain_of core ≡ next → stood ≡ standings k → IsReady core stood last
-ready k next core stood last sound gentle is stands =
+pub ready : (k next : Plain) (core : Core) (stood : List Standing) → IsSound k → IsGentle k next → plain_of core ≡ next → stood ≡ standings k → IsReady core stood
+ready k next core stood sound gentle is stands =
     let P : Plain → Type 0 = IsGentle k in
     let g : IsGentle k (plain_of core) = subst P (sym is) gentle in
     let size = length-map core.clusters cluster_of in
     let kept = length-kept k.clusters (clusters_of core.clusters) g.lines in
     record {
       places = g.places ∙ sound.places;
-      few = omega (arith, g.places, sound.places);
+      before = noted_length k stood sound stands;
       clusters = omega (arith, size, kept, sound.few_clusters);
-      room = rw stands (roomy_settled k (plain_of core) last sound g);
+      lines = rw stands (settleable k (plain_of core) sound g);
     }
 
 -- the pieces after settling stand for the settled state, which is sound
@@ -39,10 +43,6 @@ settled_next k next before after stood last last' is stands same settled =
 
 pub settled_sound : (k next : Plain) (before after : Core) (stood : List Standing) (last : List ℕ) → IsSound k → IsGentle k next → plain_of before ≡ next → stood ≡ standings k → plain_of after ≡ settle_by stood (plain_of before) last → IsSound (plain_of after)
 settled_sound k next before after stood last sound gentle is stands settled = subst IsSound (sym (settled_next k next before after stood last last is stands refl settled)) (sound_settled k next last sound gentle)
-
--- a list that notes how the threads stand has 64 places
-pub noted_length : (k : Plain) (stood : List Standing) → IsSound k → stood ≡ standings k → length stood ≡ 64
-noted_length k stood sound stands = ap length stands ∙ length-standings k 1 (length k.threads) ∙ sound.places
 
 -- there are as many clusters as before
 pub settled_count : (k next : Plain) (before after : Core) (stood : List Standing) (last : List ℕ) → IsGentle k next → plain_of before ≡ next → plain_of after ≡ settle_by stood (plain_of before) last → length after.clusters ≡ length k.clusters

@@ -8,10 +8,10 @@ use Rattle.rk_model.specs.Priorities.{is_eligible, standings}
 use Rattle.rk_model.specs.Lines.{most_urgent}
 use Rattle.rk_model.specs.Settling.{moves, moved, key_of, settled_cluster, settled_from, settle}
 use Rattle.rk_model.specs.Running.{all_cpus}
-use Rattle.rk_kernel.specs.Room.{AllRoomy}
+use Rattle.rk_kernel.specs.Settleable.{IsSettleable, AllSettleable}
 use Rattle.rk_kernel.specs.Sound.{stands, own, IsClusterSound, AllSound, IsSound, KeepsLines, AllTimed, IsGentle}
 use Rattle.rk_kernel.proofs.Timing.{is_timed-with_clusters}
-use Rattle.rk_kernel.proofs.Moving.{line_moved, line_short}
+use Rattle.rk_kernel.proofs.Moving.{line_moved, stood_in_line}
 use Rattle.rk_kernel.proofs.Assigning.{length-assigned, assigned_has}
 
 -- the line of a cluster is still the one that it was
@@ -19,19 +19,21 @@ line_kept : (k next : Plain) (last : List ℕ) (c : ℕ) (a b : ClusterState) �
     (t : ℕ) → times t (moved (moves (standings k) (standings next) last) next.threads c b.line) ≡ times t (own next c)
 line_kept k next last c a b gentle sound same t = line_moved k next last c b.line gentle (λ u. rw same (sound.line u)) t
 
-all_roomy : (k next : Plain) (last : List ℕ) (c : ℕ) (olds news : List ClusterState) → IsGentle k next → length next.threads ≤ 64 → AllSound k c olds → KeepsLines olds news →
-    AllRoomy (moves (standings k) (standings next) last) next.threads c news
-all_roomy k next last c [] [] gentle few sound keeps = tt
-all_roomy k next last c [] (b ∷ news) gentle few sound keeps = absurd keeps
-all_roomy k next last c (a ∷ olds) [] gentle few sound keeps = absurd keeps
-all_roomy k next last c (a ∷ olds) (b ∷ news) gentle few sound keeps =
-    let short = line_short next c _ (line_kept k next last c a b gentle sound.0 keeps.0) in
-    (record { cpus = rw keeps.1 sound.0.few_cpus; line = omega (arith, short) }, all_roomy k next last (c + 1) olds news gentle few sound.1 keeps.2)
+-- the line of a cluster has exactly the threads of that home that were eligible
+line_stood : (k next : Plain) (c : ℕ) (a b : ClusterState) → IsGentle k next → length next.threads ≡ 64 → IsClusterSound k c a → b.line ≡ a.line → IsSettleable (standings k) next.threads c b
+line_stood k next c a b gentle size sound same = record { line = λ t. stood_in_line k next c b.line gentle size (λ u. rw same (sound.line u)) t }
 
--- A gentle change of a sound state leaves room to settle it.
-pub roomy_settled : (k next : Plain) (last : List ℕ) → IsSound k → IsGentle k next → AllRoomy (moves (standings k) (standings next) last) next.threads 0 next.clusters
-roomy_settled k next last sound gentle =
-    all_roomy k next last 0 k.clusters next.clusters gentle (omega (arith, sound.places, gentle.places)) sound.clusters gentle.lines
+all_settleable : (k next : Plain) (c : ℕ) (olds news : List ClusterState) → IsGentle k next → length next.threads ≡ 64 → AllSound k c olds → KeepsLines olds news →
+    AllSettleable (standings k) next.threads c news
+all_settleable k next c [] [] gentle size sound keeps = tt
+all_settleable k next c [] (b ∷ news) gentle size sound keeps = absurd keeps
+all_settleable k next c (a ∷ olds) [] gentle size sound keeps = absurd keeps
+all_settleable k next c (a ∷ olds) (b ∷ news) gentle size sound keeps =
+    (line_stood k next c a b gentle size sound.0 keeps.0, all_settleable k next (c + 1) olds news gentle size sound.1 keeps.2)
+
+-- After a gentle change of a sound state the lines are as settling asks.
+pub settleable : (k next : Plain) → IsSound k → IsGentle k next → AllSettleable (standings k) next.threads 0 next.clusters
+settleable k next sound gentle = all_settleable k next 0 k.clusters next.clusters gentle (gentle.places ∙ sound.places) sound.clusters gentle.lines
 
 -- what a cluster's threads and timers are doesn't depend on the clusters
 own-with_clusters : (k : Plain) (clusters : List ClusterState) (c t : ℕ) → times t (own k c) ≡ times t (own (record k { clusters = clusters }) c)

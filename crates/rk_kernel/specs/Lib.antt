@@ -1,9 +1,9 @@
 pub mod Pieces
-pub mod Room
+pub mod Registers
+pub mod Settleable
 pub mod Sound
 pub mod Firing
 pub mod Noted
 pub mod Does
 pub mod Step
-pub mod Urgency
 pub mod Laws

@@ -1,6 +1,7 @@
+use rk_cluster::{Cluster, Moves};
 use rk_model::{Armed, Bounded, Items, Scenario, Standing, Thread, ThreadIx};
 
-/// A list of threads of a cluster.
+/// A list of threads.
 pub(crate) type Line = Bounded<ThreadIx, 64>;
 
 /// The armed timers of a cluster's threads, of which each has at most one.
@@ -9,10 +10,8 @@ pub(crate) type Timers = Bounded<Armed, 64>;
 /// A cluster of the running kernel.
 #[derive(Debug, Drop)]
 pub struct ClusterPart {
-    /// The eligible threads of the cluster, in their order.
-    pub line: Line,
-    /// The thread that each processor has.
-    pub cpus: Items<Option<ThreadIx>>,
+    /// The line of the cluster's eligible threads, and the thread that each processor has.
+    pub lined: Cluster,
     /// The armed timers, in order of arming.
     pub timers: Timers,
 }
@@ -37,12 +36,8 @@ pub struct Scratch {
     pub now: Items<Standing>,
     /// The threads that yielded or had their base priority set.
     pub last: Line,
-    /// A line as it is made anew.
-    pub line: Line,
-    /// The runners of a cluster.
-    pub running: Line,
-    /// The runners that have no processor yet.
-    pub fresh: Line,
+    /// What settling does to the threads of a cluster.
+    pub moves: Moves,
     /// The threads as a tick makes them anew.
     pub threads: Items<Thread>,
 }

@@ -6,7 +6,6 @@ mod core_state;
 mod directives;
 mod kernel;
 pub mod laws;
-mod line;
 mod opening;
 mod places;
 mod settle;

@@ -1,6 +1,7 @@
-ghost use Rattle.std.specs.Prelude.{◌≡◌, ◌<◌, ◌≤◌, ℕ, length, [], IfOk, map};
+ghost use Rattle.std.specs.Prelude.{◌≡◌, ◌<◌, ◌≤◌, ◌+◌, ℕ, length, [], IfOk, map};
 ghost use Rattle.rk_model.specs.Histories.{begun, places, free_cluster, vacant, opening};
 ghost use Rattle.rk_model.specs.Limits.{IsWithinLimits};
+ghost use Rattle.rk_model.specs.Scenarios.{cpus_in};
 ghost use Rattle.rk_kernel.specs.Noted.{IsNoted};
 ghost use Rattle.rk_kernel.specs.Pieces.{cluster_of, clusters_of, plain_of};
 ghost use Rattle.rk_kernel.specs.Sound.{IsSound};
@@ -9,6 +10,7 @@ use crate::core_state::{ClusterPart, Core, Line, Scratch, Timers};
 use crate::places::arrive;
 use crate::settle::settle_core;
 use crate::standing::note_all;
+use rk_cluster::{Cluster, Moves};
 use rk_model::{Body, Init, Items, Life, NoMemory, Prio, Scenario, Standing, Thread};
 use std::alloc::Global;
 
@@ -48,24 +50,33 @@ fn copy_scenario(alloc: Global, scenario: &Scenario) -> Result<Scenario, NoMemor
 }
 
 /// A cluster of so many processors, none of which has a thread.
-fn make_cluster(alloc: Global, count: u8) -> Result<ClusterPart, NoMemory>
+fn make_cluster(
+    alloc: Global,
+    number: u8,
+    first: u8,
+    count: u8,
+) -> Result<ClusterPart, NoMemory>
+    requires number { number < 4 }
+    requires cpus { first + count ≤ 8 }
     ensures { IfOk result (λ part. cluster_of part ≡ free_cluster count) }
 {
-    let cpus = vec![in alloc; None; count as usize]?;
     Ok(ClusterPart {
-        line: Line::new(alloc)?,
-        cpus: Items::from_vec(cpus),
+        lined: Cluster::new(alloc, number, first, count)?,
         timers: Timers::new(alloc)?,
     })
 }
 
-/// Clusters of which no processor has a thread.
+/// Clusters of which no processor has a thread. Their processors are numbered through all of them.
 fn make_clusters(alloc: Global, counts: &[u8]) -> Result<Vec<ClusterPart>, NoMemory>
+    requires clusters { length counts.now ≤ 4 }
+    requires cpus { cpus_in counts.now ≤ 8 }
     ensures { IfOk result (λ v. clusters_of v.items ≡ map free_cluster counts.now) }
 {
     let mut clusters = Vec::new(alloc);
-    for count in counts {
-        clusters.push(make_cluster(alloc, *count)?)?;
+    let mut first = 0;
+    for at in 0..counts.len() {
+        clusters.push(make_cluster(alloc, at as u8, first, counts[at])?)?;
+        first += counts[at];
     }
     Ok(clusters)
 }
@@ -80,6 +91,7 @@ fn make_places(alloc: Global) -> Result<Items<Thread>, NoMemory>
 
 /// The state in which there is no task yet.
 fn make_vacant(alloc: Global, scenario: &Scenario) -> Result<Core, NoMemory>
+    requires { IsWithinLimits scenario.now }
     ensures { IfOk result (λ core. plain_of core ≡ vacant scenario.now) }
 {
     let clusters = make_clusters(alloc, scenario.clusters.as_slice())?;
@@ -131,9 +143,7 @@ pub(crate) fn make_scratch(alloc: Global) -> Result<Scratch, NoMemory>
         before: Items::from_vec(vec![in alloc; none; 64]?),
         now: Items::from_vec(vec![in alloc; none; 64]?),
         last: Line::new(alloc)?,
-        line: Line::new(alloc)?,
-        running: Line::new(alloc)?,
-        fresh: Line::new(alloc)?,
+        moves: Moves::new(alloc)?,
         threads: make_places(alloc)?,
     })
 }

@@ -47,10 +47,11 @@ pub(crate) fn cpu_of(clusters: &[ClusterPart], cpu: usize) -> Option<ThreadIx>
 {
     let mut rest = cpu;
     for cluster in clusters {
-        if rest < cluster.cpus.len() {
-            return cluster.cpus.at(rest);
+        let count = cluster.lined.cpus() as usize;
+        if rest < count {
+            return cluster.lined.assigned(cluster.lined.first() + rest as u8);
         }
-        rest -= cluster.cpus.len();
+        rest -= count;
     }
     None
 }
@@ -62,7 +63,7 @@ pub(crate) fn count_cpus(clusters: &[ClusterPart]) -> usize
 {
     let mut count = 0;
     for cluster in clusters {
-        count += cluster.cpus.len();
+        count += cluster.lined.cpus() as usize;
     }
     count
 }

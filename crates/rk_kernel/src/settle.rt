@@ -1,14 +1,29 @@
-ghost use Rattle.std.specs.Prelude.{◌≡◌, ◌≤◌, ◌++◌, length, filter};
+ghost use Rattle.std.specs.Prelude.{◌≡◌, ◌≤◌, length, Option, None};
+ghost use Rattle.rk_model.specs.Lists.{has};
 ghost use Rattle.rk_model.specs.Priorities.{standings};
-ghost use Rattle.rk_model.specs.Settling.{move_of, moves, makes, making, moved, is_to_front, is_to_end, is_stay, key_of, settled_cluster, settled_from, settle_by};
+ghost use Rattle.rk_model.specs.Settling.{move_of, moves, key_of, settled_cluster, settled_from, settle_by};
 ghost use Rattle.rk_kernel.specs.Pieces.{plain_of, cluster_of, clusters_of};
-ghost use Rattle.rk_kernel.specs.Room.{IsRoomy, AllRoomy};
+ghost use Rattle.rk_cluster.specs.Registers.{change_at};
+ghost use Rattle.rk_kernel.specs.Registers.{change_by, register};
+ghost use Rattle.rk_kernel.specs.Settleable.{IsSettleable, AllSettleable};
 
-use crate::core_state::{ClusterPart, Core, Line, Scratch};
-use crate::line::{contains, fill, find_fresh, find_runners, keep};
+use crate::core_state::{ClusterPart, Core, Scratch};
 use crate::standing::{note_all, nth_of, thread_of};
-use rk_model::{Items, Move, Standing, Thread, ThreadIx};
+use rk_cluster::{Change, Moves};
+use rk_model::{Items, Move, Prio, Standing, Thread, ThreadIx};
 use std::mem;
+
+/// Whether the thread is in the list.
+fn contains(list: &[ThreadIx], thread: ThreadIx) -> bool
+    ensures { result ≡ has list.now thread }
+{
+    for found in list {
+        if *found == thread {
+            return true;
+        }
+    }
+    false
+}
 
 /// What settling asks of a thread that stood and stands like this.
 #[tactic(auto, unfolding(rk_model::specs::Settling::move_of))]
@@ -17,9 +32,9 @@ fn compare(before: Standing, now: Standing, last: bool) -> Move
 {
     if !now.eligible {
         Move::Leave
-    } else if !before.eligible || now.prio < before.prio || last {
+    } else if !before.eligible || now.prio.level() < before.prio.level() || last {
         Move::ToEnd
-    } else if before.prio < now.prio {
+    } else if before.prio.level() < now.prio.level() {
         Move::ToFront
     } else {
         Move::Stay
@@ -36,166 +51,98 @@ fn move_at(before: &[Standing], now: &[Standing], last: &[ThreadIx], thread: Thr
     compare(stood, stands, contains(last, thread))
 }
 
-/// Whether a thread is of the cluster and goes to the front of its line.
-#[tactic(auto, unfolding(rk_model::specs::Settling::makes))]
-fn goes_to_front(
+/// The change of a thread with this move and this priority, which stood in the line before or
+/// didn't; none where it neither stood there nor comes there.
+fn change_for(stood: bool, asked: Move, prio: Prio) -> Option<Change>
+    ensures { result ≡ change_by stood asked prio }
+{
+    match asked {
+        Move::Stay => Some(Change::Stay(prio)),
+        Move::ToEnd => Some(Change::ToEnd(prio)),
+        Move::ToFront => Some(Change::ToFront(prio)),
+        Move::Leave => {
+            if stood {
+                Some(Change::Leave)
+            } else {
+                None
+            }
+        }
+    }
+}
+
+/// The change of the thread of an index in the register of a cluster.
+fn change_at(
     before: &[Standing],
     now: &[Standing],
     last: &[ThreadIx],
     threads: &[Thread],
     cluster: u8,
     thread: ThreadIx,
-) -> bool
-    ensures { result ≡ makes is_to_front (moves before.now now.now last.now) threads.now cluster thread }
+) -> Option<Change>
+    ensures { result ≡ register before.now now.now last.now threads.now cluster thread }
 {
-    thread_of(threads, thread).home == cluster
-        && matches!(move_at(before, now, last, thread), Move::ToFront)
+    if thread_of(threads, thread).home == cluster {
+        let asked = move_at(before, now, last, thread);
+        let prio = nth_of(now, thread).prio;
+        change_for(nth_of(before, thread).eligible, asked, prio)
+    } else {
+        None
+    }
 }
 
-/// Whether a thread is of the cluster and goes to the end of its line.
-#[tactic(auto, unfolding(rk_model::specs::Settling::makes))]
-fn goes_to_end(
-    before: &[Standing],
-    now: &[Standing],
-    last: &[ThreadIx],
-    threads: &[Thread],
-    cluster: u8,
-    thread: ThreadIx,
-) -> bool
-    ensures { result ≡ makes is_to_end (moves before.now now.now last.now) threads.now cluster thread }
-{
-    thread_of(threads, thread).home == cluster
-        && matches!(move_at(before, now, last, thread), Move::ToEnd)
-}
-
-/// Whether a thread keeps its place in its line.
-fn stays(before: &[Standing], now: &[Standing], last: &[ThreadIx], thread: ThreadIx) -> bool
-    ensures { result ≡ is_stay (moves before.now now.now last.now thread) }
-{
-    matches!(move_at(before, now, last, thread), Move::Stay)
-}
-
-/// Adds the threads of a cluster that go to the front of its line.
-fn push_fronts(
-    out: &mut Line,
+/// Writes the register of a cluster.
+fn fill_register(
+    out: &mut Moves,
     before: &[Standing],
     now: &[Standing],
     last: &[ThreadIx],
     threads: &[Thread],
     cluster: u8,
 )
-    requires few { length threads.now ≤ 64 }
-    requires room { length (out.old ++ making is_to_front (moves before.now now.now last.now) threads.now cluster) ≤ 64 }
-    ensures { out.new ≡ out.old ++ making is_to_front (moves before.now now.now last.now) threads.now cluster }
+    requires before { length before.now ≡ 64 }
+    requires now { length now.now ≡ 64 }
+    requires threads { length threads.now ≡ 64 }
+    ensures { change_at out.new ≡ register before.now now.now last.now threads.now cluster }
 {
+    out.clear();
     for at in 0..threads.len() {
         let thread = ThreadIx::new(at as u8 + 1);
-        if goes_to_front(before, now, last, threads, cluster, thread) {
-            out.push(thread);
+        if let Some(change) = change_at(before, now, last, threads, cluster, thread) {
+            out.set(thread, change);
         }
     }
-}
-
-/// Adds the threads of a cluster that go to the end of its line.
-fn push_ends(
-    out: &mut Line,
-    before: &[Standing],
-    now: &[Standing],
-    last: &[ThreadIx],
-    threads: &[Thread],
-    cluster: u8,
-)
-    requires few { length threads.now ≤ 64 }
-    requires room { length (out.old ++ making is_to_end (moves before.now now.now last.now) threads.now cluster) ≤ 64 }
-    ensures { out.new ≡ out.old ++ making is_to_end (moves before.now now.now last.now) threads.now cluster }
-{
-    for at in 0..threads.len() {
-        let thread = ThreadIx::new(at as u8 + 1);
-        if goes_to_end(before, now, last, threads, cluster, thread) {
-            out.push(thread);
-        }
-    }
-}
-
-/// Adds the threads of a line that keep their places in it.
-fn push_stays(
-    out: &mut Line,
-    before: &[Standing],
-    now: &[Standing],
-    last: &[ThreadIx],
-    line: &[ThreadIx],
-)
-    requires { length (out.old ++ filter (λ t. is_stay (moves before.now now.now last.now t)) line.now) ≤ 64 }
-    ensures { out.new ≡ out.old ++ filter (λ t. is_stay (moves before.now now.now last.now t)) line.now }
-{
-    for thread in line {
-        if stays(before, now, last, *thread) {
-            out.push(*thread);
-        }
-    }
-}
-
-/// Applies the moves to a line.
-fn settle_line(
-    line: &mut Line,
-    room: &mut Line,
-    before: &[Standing],
-    now: &[Standing],
-    last: &[ThreadIx],
-    threads: &[Thread],
-    cluster: u8,
-)
-    requires few { length threads.now ≤ 64 }
-    requires room { length (moved (moves before.now now.now last.now) threads.now cluster line.old) ≤ 64 }
-    ensures { line.new ≡ moved (moves before.now now.now last.now) threads.now cluster line.old }
-{
-    room.clear();
-    push_fronts(room, before, now, last, threads, cluster);
-    push_stays(room, before, now, last, line.as_slice());
-    push_ends(room, before, now, last, threads, cluster);
-    mem::swap(line, room);
 }
 
 /// Settles a cluster.
 fn settle_cluster(cluster: &mut ClusterPart, scratch: &mut Scratch, threads: &[Thread], number: u8)
-    requires few { length threads.now ≤ 64 }
-    requires room { IsRoomy (moves scratch.old.before scratch.old.now scratch.old.last) threads.now number (cluster_of cluster.old) }
+    requires before { length scratch.old.before ≡ 64 }
+    requires now { length scratch.old.now ≡ 64 }
+    requires threads { length threads.now ≡ 64 }
+    requires lines { IsSettleable scratch.old.before threads.now number (cluster_of cluster.old) }
     ensures cluster { cluster_of cluster.new ≡ settled_cluster (moves scratch.old.before scratch.old.now scratch.old.last) (key_of scratch.old.now) threads.now number (cluster_of cluster.old) }
     ensures before { scratch.new.before ≡ scratch.old.before }
     ensures now { scratch.new.now ≡ scratch.old.now }
     ensures last { scratch.new.last ≡ scratch.old.last }
     ensures threads { scratch.new.threads ≡ scratch.old.threads }
 {
-    settle_line(
-        &mut cluster.line,
-        &mut scratch.line,
+    fill_register(
+        &mut scratch.moves,
         scratch.before.as_slice(),
         scratch.now.as_slice(),
         scratch.last.as_slice(),
         threads,
         number,
     );
-    find_runners(
-        &mut scratch.running,
-        &mut scratch.fresh,
-        scratch.now.as_slice(),
-        cluster.line.as_slice(),
-        cluster.cpus.len(),
-    );
-    find_fresh(
-        &mut scratch.fresh,
-        cluster.cpus.as_slice(),
-        scratch.running.as_slice(),
-    );
-    keep(&mut cluster.cpus, scratch.running.as_slice());
-    fill(&mut cluster.cpus, scratch.fresh.as_slice());
+    cluster.lined.settle(&scratch.moves);
 }
 
 /// Settles each cluster.
 fn settle_all(clusters: &mut Items<ClusterPart>, scratch: &mut Scratch, threads: &[Thread])
-    requires few { length threads.now ≤ 64 }
+    requires before { length scratch.old.before ≡ 64 }
+    requires now { length scratch.old.now ≡ 64 }
+    requires places { length threads.now ≡ 64 }
     requires clusters { length clusters.old ≤ 4 }
-    requires room { AllRoomy (moves scratch.old.before scratch.old.now scratch.old.last) threads.now 0 (clusters_of clusters.old) }
+    requires lines { AllSettleable scratch.old.before threads.now 0 (clusters_of clusters.old) }
     ensures clusters { clusters_of clusters.new ≡ settled_from (moves scratch.old.before scratch.old.now scratch.old.last) (key_of scratch.old.now) threads.now 0 (clusters_of clusters.old) }
     ensures before { scratch.new.before ≡ scratch.old.before }
     ensures now { scratch.new.now ≡ scratch.old.now }
@@ -210,13 +157,14 @@ fn settle_all(clusters: &mut Items<ClusterPart>, scratch: &mut Scratch, threads:
 /// Settles a state after a change, where `scratch.before` says how the threads stood before it and
 /// `scratch.last` which go last. Then `scratch.before` says how they stand now.
 pub(crate) fn settle_core(core: &mut Core, scratch: &mut Scratch)
-    requires few { length core.old.threads ≤ 64 }
-    requires size { length scratch.old.now ≡ length core.old.threads }
+    requires places { length core.old.threads ≡ 64 }
+    requires before { length scratch.old.before ≡ 64 }
+    requires now { length scratch.old.now ≡ 64 }
     requires clusters { length core.old.clusters ≤ 4 }
-    requires room { AllRoomy (moves scratch.old.before (standings (plain_of core.old)) scratch.old.last) core.old.threads 0 (clusters_of core.old.clusters) }
+    requires lines { AllSettleable scratch.old.before core.old.threads 0 (clusters_of core.old.clusters) }
     ensures core { plain_of core.new ≡ settle_by scratch.old.before (plain_of core.old) scratch.old.last }
     ensures before { scratch.new.before ≡ standings (plain_of core.new) }
-    ensures size { length scratch.new.now ≡ length scratch.old.before }
+    ensures size { length scratch.new.now ≡ 64 }
     ensures last { scratch.new.last ≡ scratch.old.last }
     ensures threads { scratch.new.threads ≡ scratch.old.threads }
 {

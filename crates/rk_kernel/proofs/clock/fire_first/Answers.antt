@@ -17,8 +17,8 @@ settle_core-requires c =
     let x = c.in-Some.timer in
     let g = expire_gentle k c.args.cluster (rest_of (due_now k c.args.cluster)) x c.requires.sound (omega (arith, c.requires.cluster, length-map c.args.core.now.clusters cluster_of)) (head_some (due_now k c.args.cluster) x c.in-Some.ensures.first) in
     let e = expired k (plain_of c.take_due_of.new.core) (plain_of c.finish_wait.new.core) c.args.cluster c.thread_of_timer.result x c.in-Some.ensures.taken c.thread_of_timer.ensures c.finish_wait.ensures in
-    let r = ready k _ c.finish_wait.new.core c.args.scratch.now.before c.clear.new.self c.requires.sound g e c.requires.noted.before in
-    record { few = r.few; size = c.requires.noted.now ∙ sym r.places; clusters = r.clusters; room = r.room }
+    let r = ready k _ c.finish_wait.new.core c.args.scratch.now.before c.requires.sound g e c.requires.noted.before in
+    record { places = r.places; before = r.before; now = c.requires.noted.now; clusters = r.clusters; lines = r.lines }
 
 pub returns-in-None : goal.returns-in-None
 returns-in-None c =
@@ -46,5 +46,5 @@ returns-in-Some c =
       fires = fires_some k (plain_of after) c.args.cluster _ x c.in-Some.ensures.first (settled_next k next before after stood last [] e c.requires.noted.before c.clear.ensures c.settle_core.ensures.core) refl;
       clusters = settled_count k next before after stood last g e c.settle_core.ensures.core ∙ length-map c.args.core.now.clusters cluster_of;
       sound = settled_sound k next before after stood last c.requires.sound g e c.requires.noted.before c.settle_core.ensures.core;
-      noted = record { before = c.settle_core.ensures.before; now = c.settle_core.ensures.size ∙ noted_length k stood c.requires.sound c.requires.noted.before; threads = ap length c.settle_core.ensures.threads ∙ c.requires.noted.threads };
+      noted = record { before = c.settle_core.ensures.before; now = c.settle_core.ensures.size; threads = ap length c.settle_core.ensures.threads ∙ c.requires.noted.threads };
     }

@@ -12,8 +12,8 @@ settle_core-requires c =
     let s = c.args.scenario.now in
     let is = ap (λ (k : Plain). record k { threads = c.start_all.new.threads }) c.in_ok-core.ensures ∙ ap (λ (ts : List Thread). record (vacant s) { threads = ts }) c.start_all.ensures in
     let stands = c.note_all.ensures ∙ ap standings c.in_ok-core.ensures in
-    let r = ready (vacant s) (started s) (record c.in_ok-core.core { threads = c.start_all.new.threads }) c.note_all.new.out c.args.scratch.now.last (sound_vacant s c.requires.limits) (gentle_started s c.requires.limits) is stands in
-    record { few = r.few; size = c.requires.now ∙ sym r.places; clusters = r.clusters; room = r.room }
+    let r = ready (vacant s) (started s) (record c.in_ok-core.core { threads = c.start_all.new.threads }) c.note_all.new.out (sound_vacant s c.requires.limits) (gentle_started s c.requires.limits) is stands in
+    record { places = r.places; before = r.before; now = c.requires.now; clusters = r.clusters; lines = r.lines }
 
 pub returns : goal.returns
 returns c =
@@ -28,5 +28,5 @@ returns c =
     record {
       opening = settled_next (vacant s) (started s) before after stood last [] is stands c.requires.last c.settle_core.ensures.core;
       sound = settled_sound (vacant s) (started s) before after stood last sound (gentle_started s c.requires.limits) is stands c.settle_core.ensures.core;
-      noted = record { before = c.settle_core.ensures.before; now = c.settle_core.ensures.size ∙ noted_length (vacant s) stood sound stands; threads = ap length c.settle_core.ensures.threads ∙ c.requires.threads };
+      noted = record { before = c.settle_core.ensures.before; now = c.settle_core.ensures.size; threads = ap length c.settle_core.ensures.threads ∙ c.requires.threads };
     }

@@ -1,7 +1,7 @@
 use Rattle.std.proofs.Common.{◌≡◌, ◌<◌, length, arith, ◌∙◌, length-set}
 use Rattle.rk_model.specs.Settling.{moves, key_of, settled_cluster}
 use Rattle.rk_kernel.specs.Pieces.{cluster_of}
-use Rattle.rk_kernel.proofs.Clusters.{part_settled, rest_roomy}
+use Rattle.rk_kernel.proofs.Clusters.{part_settled, rest_settleable, part_settleable}
 use Rattle.rk_kernel.proofs.settle.settle_all.Goals as goal
 
 pub loop-at-preserved : goal.loop-at-preserved
@@ -23,6 +23,9 @@ loop-at-preserved c =
       now = c.settle_cluster.ensures.now ∙ c.loop-at.invariant.now;
       last = c.settle_cluster.ensures.last ∙ c.loop-at.invariant.last;
       threads = c.settle_cluster.ensures.threads ∙ c.loop-at.invariant.threads;
-      room = rest_roomy move threads parts at part next within c.at_mut.ensures.value c.loop-at.invariant.room;
+      lines = rest_settleable scratch.before threads parts at part next within c.at_mut.ensures.value c.loop-at.invariant.lines;
       told = part_settled move key threads parts at part next _ within c.at_mut.ensures.value done c.loop-at.invariant.told;
     }
+
+pub settle_cluster-requires-clause-lines : goal.settle_cluster-requires-clause-lines
+settle_cluster-requires-clause-lines c = rw ← c.loop-at.invariant.before at (part_settleable c.args.scratch.now.before c.args.threads.now c.loop-at.clusters c.loop-at.at c.at_mut.result.now (omega arith) c.at_mut.ensures.value c.loop-at.invariant.lines)

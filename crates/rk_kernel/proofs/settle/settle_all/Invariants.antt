@@ -1,7 +1,7 @@
 use Rattle.std.proofs.Common.{◌≡◌, ◌++◌, take, drop, length}
 use Rattle.rk_model.specs.Settling.{moves, key_of, settled_from}
 use Rattle.rk_kernel.specs.Pieces.{clusters_of}
-use Rattle.rk_kernel.specs.Room.{AllRoomy}
+use Rattle.rk_kernel.specs.Settleable.{AllSettleable}
 use Rattle.rk_kernel.proofs.settle.settle_all.Given as goal
 
 abbrev pub invariant-loop-at : goal.invariant-loop-at
@@ -11,6 +11,6 @@ invariant-loop-at l = record {
   now : l.scratch.now ≡ l.fn.scratch.now;
   last : l.scratch.last ≡ l.fn.scratch.last;
   threads : l.scratch.threads ≡ l.fn.scratch.threads;
-  room : AllRoomy (moves l.fn.scratch.before l.fn.scratch.now l.fn.scratch.last) l.threads l.at (clusters_of (drop l.at l.clusters));
+  lines : AllSettleable l.fn.scratch.before l.threads l.at (clusters_of (drop l.at l.clusters));
   told : clusters_of (take l.at l.clusters) ++ settled_from (moves l.fn.scratch.before l.fn.scratch.now l.fn.scratch.last) (key_of l.fn.scratch.now) l.threads l.at (clusters_of (drop l.at l.clusters)) ≡ settled_from (moves l.fn.scratch.before l.fn.scratch.now l.fn.scratch.last) (key_of l.fn.scratch.now) l.threads 0 (clusters_of l.fn.clusters);
 }

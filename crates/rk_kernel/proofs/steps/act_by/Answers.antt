@@ -24,8 +24,8 @@ perform-reply-requires-clause-room c =
 pub settle_core-requires : goal.settle_core-requires
 settle_core-requires c =
     let k = plain_of c.args.core.now in
-    let r = ready k (action k c.args.thread).next c.perform-reply.new.core c.args.scratch.now.before c.perform-reply.new.last c.requires.sound (gentle k c.args.cpu c.args.thread c.requires.sound c.requires.caller) c.perform-reply.ensures.next c.requires.noted.before in
-    record { few = r.few; size = c.requires.noted.now ∙ sym r.places; clusters = r.clusters; room = r.room }
+    let r = ready k (action k c.args.thread).next c.perform-reply.new.core c.args.scratch.now.before c.requires.sound (gentle k c.args.cpu c.args.thread c.requires.sound c.requires.caller) c.perform-reply.ensures.next c.requires.noted.before in
+    record { places = r.places; before = r.before; now = c.requires.noted.now; clusters = r.clusters; lines = r.lines }
 
 pub returns : goal.returns
 returns c =
@@ -36,5 +36,5 @@ returns c =
       entry = search rules;
       next = settled_next k o.next c.perform-reply.new.core c.settle_core.new.core c.args.scratch.now.before c.perform-reply.new.last o.last c.perform-reply.ensures.next c.requires.noted.before c.perform-reply.ensures.last c.settle_core.ensures.core;
       sound = settled_sound k o.next c.perform-reply.new.core c.settle_core.new.core c.args.scratch.now.before c.perform-reply.new.last c.requires.sound g c.perform-reply.ensures.next c.requires.noted.before c.settle_core.ensures.core;
-      noted = record { before = c.settle_core.ensures.before; now = c.settle_core.ensures.size ∙ noted_length k c.args.scratch.now.before c.requires.sound c.requires.noted.before; threads = ap length c.settle_core.ensures.threads ∙ c.requires.noted.threads };
+      noted = record { before = c.settle_core.ensures.before; now = c.settle_core.ensures.size; threads = ap length c.settle_core.ensures.threads ∙ c.requires.noted.threads };
     }
