@@ -4,7 +4,8 @@ use Rattle.std.specs.List.{slice_index_or, slice_set}
 use Rattle.std.proofs.lemmas.Bool.Decides.{nat_tests}
 use Rattle.rk_model.specs.declared.scenario.Scenario.{Scenario}
 use Rattle.rk_model.specs.declared.scenario.Op.{Op}
-use Rattle.rk_model.specs.declared.scenario.Op.TheVariants.{Work, TaskWakeAfter}
+use Rattle.rk_model.specs.declared.scenario.Op.TheVariants.{Work, Goto, TaskSuspend, TaskResume, TaskWakeAfter}
+use Rattle.rk_model.specs.declared.status.Status.TheVariants.{Successful, IncorrectState, AlreadySuspended}
 use Rattle.rk_model.specs.declared.entry.Entry.{Entry}
 use Rattle.rk_model.specs.declared.entry.What.TheVariants.{Tick, End}
 use Rattle.rk_model.specs.declared.entry.Reply.{Reply}
@@ -12,7 +13,8 @@ use Rattle.rk_model.specs.declared.state.Armed.{Armed}
 use Rattle.rk_model.specs.State.{Plain, ClusterState, no_cluster, cluster_at, thread_at, op_at}
 use Rattle.rk_model.specs.Settling.{settle}
 use Rattle.rk_model.specs.Running.{all_cpus, cpu_count, caller, first_of, least_from, least}
-use Rattle.rk_model.specs.Tasks.{sleep, yield}
+use Rattle.rk_model.specs.Outcomes.{answer}
+use Rattle.rk_model.specs.Tasks.{task_named, with_suspended, suspend_found, resume_found, sleep, yield}
 use Rattle.rk_model.specs.Timers.{thread_of, due_at}
 use Rattle.rk_model.specs.Ticks.{pass, expire, fire, fire_each, fire_cluster, fire_from, tick}
 use Rattle.rk_model.specs.Steps.{Act, act, act_of, clock_entry, action, action_on, directive}
@@ -35,9 +37,26 @@ wake_after_keeps : (k : Plain) (t ticks : ℕ) (b : Bool) → cpu_count (cond b 
 wake_after_keeps k t ticks true = refl
 wake_after_keeps k t ticks false = put_keeps k.clusters (thread_at k t).home _ refl
 
+suspend_keeps : (k : Plain) (t : ℕ) (o : Option ℕ) → cpu_count (suspend_found k t o).next ≡ cpu_count k
+suspend_keeps k t None = refl
+suspend_keeps k t (Some u) = by k t u (thread_at k u).suspended where
+  by : (k : Plain) (t u : ℕ) (b : Bool) → cpu_count (cond b (answer AlreadySuspended k t) (answer Successful (with_suspended k u true) t)).next ≡ cpu_count k
+  by k t u true = refl
+  by k t u false = refl
+
+resume_keeps : (k : Plain) (t : ℕ) (o : Option ℕ) → cpu_count (resume_found k t o).next ≡ cpu_count k
+resume_keeps k t None = refl
+resume_keeps k t (Some u) = by k t u (thread_at k u).suspended where
+  by : (k : Plain) (t u : ℕ) (b : Bool) → cpu_count (cond b (answer Successful (with_suspended k u false) t) (answer IncorrectState k t)).next ≡ cpu_count k
+  by k t u true = refl
+  by k t u false = refl
+
 directive_keeps : (k : Plain) (t : ℕ) (op : Option Op) → cpu_count (directive k t op).next ≡ cpu_count k
 directive_keeps k t None = refl
 directive_keeps k t (Some (Work n)) = refl
+directive_keeps k t (Some (Goto target)) = refl
+directive_keeps k t (Some (TaskSuspend id)) = suspend_keeps k t (task_named k t id)
+directive_keeps k t (Some (TaskResume id)) = resume_keeps k t (task_named k t id)
 directive_keeps k t (Some (TaskWakeAfter n)) = wake_after_keeps k t n (eqb n 0)
 
 action_on_keeps : (k : Plain) (t : ℕ) (finished : Option Reply) → cpu_count (action_on k t finished).next ≡ cpu_count k

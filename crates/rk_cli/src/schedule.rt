@@ -20,6 +20,9 @@ fn push_word(out: &mut Vec<u8>, op: Option<Op>) -> Result<(), NoMemory>
     match op {
         None => push_text(out, "task.exit"),
         Some(Op::Work(_)) => push_text(out, "work"),
+        Some(Op::Goto(_)) => push_text(out, "goto"),
+        Some(Op::TaskSuspend(_)) => push_text(out, "task.suspend"),
+        Some(Op::TaskResume(_)) => push_text(out, "task.resume"),
         Some(Op::TaskWakeAfter(_)) => push_text(out, "task.wake_after"),
     }
 }

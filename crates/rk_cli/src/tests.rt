@@ -1,6 +1,5 @@
 use crate::{plain_top, write_schedule};
 use rk_io::{MemSink, MemSource, SureSink, SureSource};
-use rk_kernel::run_lowest;
 use rk_scenario::read_scenario;
 use std::alloc::Global;
 use std::test::Fail;
@@ -13,9 +12,26 @@ const TWO_TASKS: &str =
 const TWO_TASKS_SCHEDULE: &str =
     "schedule 1\ntick 1 t1\np0 t1 a:2 task.wake_after waits\np0 t2 b:1 task.wake_after done 0 0\ntick 2 t2\np0 t1 a:2 task.wake_after back 0 0\np0 t1 a:3 task.exit done 1 0\np0 t2 b:3 task.exit done 1 0\ntick 3 -\nend 3\n";
 
-/// The schedule of the first five entries of that history.
-const TWO_TASKS_CUT: &str =
-    "schedule 1\ntick 1 t1\np0 t1 a:2 task.wake_after waits\np0 t2 b:1 task.wake_after done 0 0\ntick 2 t2\np0 t1 a:2 task.wake_after back 0 0\nlimit\n";
+/// Three tasks on two processors yield once, and then the first two compute.
+const YIELDS: &str =
+    "rtems 1\ncluster 2\nticks 1\nbody y\ntask.wake_after 0\nwork 1\nend\ninit AAAA 0 10 y\ninit BBBB 0 10 y\ninit CCCC 0 10 y\n";
+
+const YIELDS_SCHEDULE: &str =
+    "schedule 1\np0 t1 y:1 task.wake_after done 0 0\np0 t3 y:1 task.wake_after done 0 0\np1 t2 y:1 task.wake_after done 0 0\ntick 1 t1 t3\np0 t1 y:3 task.exit done 1 0\np1 t3 y:3 task.exit done 1 0\nend 1\n";
+
+/// A task suspends and resumes another, asks for one that there isn't, and suspends itself.
+const SUSPENDS: &str =
+    "rtems 1\ncluster 1\nticks 1\nbody a\ntask.suspend 0x0a010002\ntask.suspend 0x0a010002\ntask.resume 0x0a010002\ntask.resume 0x0a010002\ntask.resume 0x0a010003\ntask.suspend self\nend\nbody b\nwork 1\nend\ninit AAAA 0 10 a\ninit BBBB 0 10 b\n";
+
+const SUSPENDS_SCHEDULE: &str =
+    "schedule 1\np0 t1 a:1 task.suspend done 0 0\np0 t1 a:2 task.suspend done 15 0\np0 t1 a:3 task.resume done 0 0\np0 t1 a:4 task.resume done 14 0\np0 t1 a:5 task.resume done 4 0\np0 t1 a:6 task.suspend done 0 0\ntick 1 t2\np0 t2 b:2 task.exit done 1 0\nend 1\n";
+
+/// A task that goes round for ever, cut after four entries.
+const LOOPS: &str =
+    "rtems 1\ncluster 1\nticks 5\nlimit 4\nbody l\ntask.wake_after 0\nwork 1\ngoto 1\nend\ninit LOOP 0 10 l\n";
+
+const LOOPS_SCHEDULE: &str =
+    "schedule 1\np0 t1 l:1 task.wake_after done 0 0\ntick 1 t1\np0 t1 l:1 task.wake_after done 0 0\ntick 2 t1\nlimit\n";
 
 const USAGE: &str = "usage: rtems_smp run | plan | check | big N\n";
 
@@ -36,10 +52,25 @@ fn writes_whole_texts(rt: HostRuntime) -> Result<(), Fail> {
     let rows = [
         (Some("plan"), SHORT, "schedule 1\nend 0\n", 0),
         (Some("plan"), TWO_TASKS, TWO_TASKS_SCHEDULE, 0),
+        (Some("plan"), YIELDS, YIELDS_SCHEDULE, 0),
+        (Some("plan"), SUSPENDS, SUSPENDS_SCHEDULE, 0),
+        (Some("plan"), LOOPS, LOOPS_SCHEDULE, 4),
+        (
+            Some("plan"),
+            "rtems 1\ncluster 1\nticks 3\nlimit 3\n",
+            "schedule 1\ntick 1 -\ntick 2 -\ntick 3 -\nlimit\n",
+            4,
+        ),
+        (
+            Some("plan"),
+            "rtems 1\ncluster 1\nticks 3\nlimit 4\n",
+            "schedule 1\ntick 1 -\ntick 2 -\ntick 3 -\nend 3\n",
+            0,
+        ),
         (Some("plan"), "", "scenario line 1: Header\n", 2),
         (
             Some("plan"),
-            "rtems 1\ncluster 2\nticks 0\n",
+            "rtems 1\ncluster 9\nticks 0\n",
             "scenario line 2: NotYetBuilt\n",
             2,
         ),
@@ -61,15 +92,10 @@ fn writes_whole_texts(rt: HostRuntime) -> Result<(), Fail> {
 }
 
 #[test]
-fn writes_cut_histories(rt: HostRuntime) -> Result<(), Fail> {
-    let alloc = rt.alloc();
-    let scenario = read_scenario(alloc, TWO_TASKS.as_bytes())?;
-    let history = run_lowest(alloc, &scenario)?;
-    for (count, want) in [(0, "schedule 1\nlimit\n"), (5, TWO_TASKS_CUT)] {
-        let entries = history.entries().get(..count).ok_or("a longer history")?;
-        let text = write_schedule(alloc, &scenario, entries)?;
-        assert_eq!(rt; text.as_slice(), want.as_bytes());
-    }
+fn writes_an_empty_history(rt: HostRuntime) -> Result<(), Fail> {
+    let scenario = read_scenario(rt.alloc(), TWO_TASKS.as_bytes())?;
+    let text = write_schedule(rt.alloc(), &scenario, &[])?;
+    assert_eq!(rt; text.as_slice(), b"schedule 1\nlimit\n".as_slice());
     Ok(())
 }
 
