@@ -1,5 +1,5 @@
 -- Each directive changes little, so that settling makes the state sound again.
-use Rattle.std.proofs.Common.{◌≡◌, ◌≢◌, ℕ, ◌+◌, ◌<◌, ◌≤◌, List, Bool, false, cond, eqb, ◌&&◌, length, arith, refl, sym, ◌∙◌, ap}
+use Rattle.std.proofs.Common.{◌≡◌, ◌≢◌, ℕ, ◌+◌, ◌<◌, ◌≤◌, List, Bool, true, false, cond, eqb, ◌&&◌, Option, None, Some, length, arith, refl, sym, ◌∙◌, ap}
 use Rattle.std.specs.List.{slice_set}
 use Rattle.std.proofs.lemmas.Bool.Decides.{nat_tests}
 use Rattle.rk_model.specs.declared.state.Life.TheVariants.{Ended}
@@ -8,24 +8,41 @@ use Rattle.rk_model.specs.declared.state.Armed.{Armed}
 use Rattle.rk_model.specs.Lists.{times}
 use Rattle.rk_model.specs.State.{Plain, no_thread, thread_at, put_thread, cluster_at, put_cluster}
 use Rattle.rk_model.specs.Timers.{sleepers}
-use Rattle.rk_model.specs.Outcomes.{gone_on, go_on}
-use Rattle.rk_model.specs.Tasks.{task_exit}
+use Rattle.rk_model.specs.declared.status.Status.TheVariants.{Successful, IncorrectState, AlreadySuspended}
+use Rattle.rk_model.specs.Outcomes.{gone_on, go_on, answer}
+use Rattle.rk_model.specs.Tasks.{with_suspended, suspend_found, resume_found, task_exit}
 use Rattle.rk_kernel.specs.Sound.{IsSound, IsInBounds, IsGentle, is_timed, has_time, is_in_call}
 use Rattle.rk_kernel.proofs.Indices.{nth-with_same, nth-with_other, nth-with_kept, length-with_nth, All-with_nth}
-use Rattle.rk_kernel.proofs.Bounds.{bounds_at, arrived_bounds}
-use Rattle.rk_kernel.proofs.Timing.{keeps_same, keeps_timers, timed_same, timed_put, is_timed-put_thread, is_timed-put_elsewhere, is_timed-with_clusters}
+use Rattle.rk_kernel.proofs.Bounds.{bounds_at, bounds_in, arrived_bounds}
+use Rattle.rk_kernel.proofs.Timing.{keeps_same, keeps_timers, timed_same, timed_again, timed_put, is_timed-put_thread, is_timed-put_elsewhere, is_timed-with_clusters}
+
+-- to change nothing
+gentle_same : (k : Plain) → IsSound k → IsGentle k k
+gentle_same k sound = record {
+  scenario = refl;
+  present = refl;
+  places = refl;
+  homes = λ u _. refl;
+  threads = sound.threads;
+  lines = keeps_same k.clusters;
+  timers = timed_same k k 0 k.clusters (λ _ _. refl) sound.clusters;
+}
+
+-- to put back one more thread within its bounds, with its home and its wait
+gentle_more : (k m : Plain) (t : ℕ) (thread : Thread) → IsGentle k m → thread.home ≡ (thread_at m t).home → thread.wait ≡ (thread_at m t).wait → IsInBounds (length k.clusters) k.present thread → IsGentle k (put_thread m t thread)
+gentle_more k m t thread gentle home wait bounds = record {
+  scenario = gentle.scenario;
+  present = gentle.present;
+  places = length-with_nth thread m.threads t ∙ gentle.places;
+  homes = λ u h. nth-with_kept (λ (x : Thread). x.home) no_thread thread m.threads t u home ∙ gentle.homes u h;
+  threads = All-with_nth (IsInBounds (length k.clusters) k.present) thread m.threads t bounds gentle.threads;
+  lines = gentle.lines;
+  timers = timed_again m (put_thread m t thread) 0 m.clusters (is_timed-put_thread m t thread home wait) gentle.timers;
+}
 
 -- to put back a thread within its bounds, with its home and its wait
 pub gentle_put : (k : Plain) (t : ℕ) (thread : Thread) → IsSound k → thread.home ≡ (thread_at k t).home → thread.wait ≡ (thread_at k t).wait → IsInBounds (length k.clusters) k.present thread → IsGentle k (put_thread k t thread)
-gentle_put k t thread sound home wait bounds = record {
-  scenario = refl;
-  present = refl;
-  places = length-with_nth thread k.threads t;
-  homes = λ u _. nth-with_kept (λ (x : Thread). x.home) no_thread thread k.threads t u home;
-  threads = All-with_nth (IsInBounds (length k.clusters) k.present) thread k.threads t bounds sound.threads;
-  lines = keeps_same k.clusters;
-  timers = timed_same k (put_thread k t thread) 0 k.clusters (is_timed-put_thread k t thread home wait) sound.clusters;
-}
+gentle_put k t thread sound home wait bounds = gentle_more k k t thread (gentle_same k sound) home wait bounds
 
 elsewhere : (k : Plain) (t d : ℕ) → d ≢ (thread_at k t).home → eqb (thread_at k t).home d ≡ false
 elsewhere k t d other = grind (arith, nat_tests, other)
@@ -67,8 +84,44 @@ exit_gentle k t sound =
     let b = bounds_at k t sound in
     gentle_put k t (record (thread_at k t) { life = Ended }) sound refl refl (record { home = b.home; line = b.line; working = b.working; calling = b.calling; apart = b.apart; computed = b.computed })
 
+-- a thread that is in no call goes on after a gentle change
+go_on_more : (k m : Plain) (t : ℕ) → IsSound k → IsGentle k m → (thread_at m t).line ≤ 1000 → is_in_call (thread_at m t).wait (thread_at m t).finished ≡ false → IsGentle k (go_on m t)
+go_on_more k m t sound gentle low free =
+    let b = bounds_in k m t sound gentle in
+    gentle_more k m t (gone_on m.scenario (thread_at m t)) gentle refl refl
+    (arrived_bounds m.scenario (length k.clusters) k.present (thread_at m t) ((thread_at m t).line + 1) (rw gentle.scenario sound.bodies) (rw gentle.scenario sound.targets) b.home (omega arith) b.computed free)
+
 -- a thread that is in no call goes on
 pub go_on_gentle : (k : Plain) (t : ℕ) → IsSound k → (thread_at k t).line ≤ 1000 → is_in_call (thread_at k t).wait (thread_at k t).finished ≡ false → IsGentle k (go_on k t)
-go_on_gentle k t sound low free =
-    let b = bounds_at k t sound in
-    gentle_put k t (gone_on k.scenario (thread_at k t)) sound refl refl (arrived_bounds k.scenario (length k.clusters) k.present (thread_at k t) ((thread_at k t).line + 1) sound.bodies b.home (omega arith) b.computed free)
+go_on_gentle k t sound low free = go_on_more k k t sound (gentle_same k sound) low free
+
+-- to suspend a thread, or to let a suspended one go on
+suspended_gentle : (k : Plain) (u : ℕ) (suspended : Bool) → IsSound k → IsGentle k (with_suspended k u suspended)
+suspended_gentle k u suspended sound =
+    let b = bounds_at k u sound in
+    gentle_put k u (record (thread_at k u) { suspended = suspended }) sound refl refl (record { home = b.home; line = b.line; working = b.working; calling = b.calling; apart = b.apart; computed = b.computed })
+
+-- the same where a thread that is in no call goes on then
+go_on_suspended : (k : Plain) (t u : ℕ) (suspended : Bool) → IsSound k → (thread_at k t).line ≤ 1000 → is_in_call (thread_at k t).wait (thread_at k t).finished ≡ false → IsGentle k (go_on (with_suspended k u suspended) t)
+go_on_suspended k t u suspended sound low free =
+    let m = with_suspended k u suspended in
+    let thread : Thread = record (thread_at k u) { suspended = suspended } in
+    let line : (thread_at m t).line ≡ (thread_at k t).line = nth-with_kept (λ (x : Thread). x.line) no_thread thread k.threads u t refl in
+    let call : is_in_call (thread_at m t).wait (thread_at m t).finished ≡ is_in_call (thread_at k t).wait (thread_at k t).finished = nth-with_kept (λ (x : Thread). is_in_call x.wait x.finished) no_thread thread k.threads u t refl in
+    go_on_more k m t sound (suspended_gentle k u suspended sound) (omega (arith, line, low)) (call ∙ free)
+
+-- A thread that is in no call suspends a task.
+pub suspend_gentle : (k : Plain) (t : ℕ) (found : Option ℕ) → IsSound k → (thread_at k t).line ≤ 1000 → is_in_call (thread_at k t).wait (thread_at k t).finished ≡ false → IsGentle k (suspend_found k t found).next
+suspend_gentle k t None sound low free = go_on_gentle k t sound low free
+suspend_gentle k t (Some u) sound low free = by (thread_at k u).suspended where
+  by : (b : Bool) → IsGentle k (cond b (answer AlreadySuspended k t) (answer Successful (with_suspended k u true) t)).next
+  by true = go_on_gentle k t sound low free
+  by false = go_on_suspended k t u true sound low free
+
+-- A thread that is in no call lets a task go on.
+pub resume_gentle : (k : Plain) (t : ℕ) (found : Option ℕ) → IsSound k → (thread_at k t).line ≤ 1000 → is_in_call (thread_at k t).wait (thread_at k t).finished ≡ false → IsGentle k (resume_found k t found).next
+resume_gentle k t None sound low free = go_on_gentle k t sound low free
+resume_gentle k t (Some u) sound low free = by (thread_at k u).suspended where
+  by : (b : Bool) → IsGentle k (cond b (answer Successful (with_suspended k u false) t) (answer IncorrectState k t)).next
+  by true = go_on_suspended k t u false sound low free
+  by false = go_on_gentle k t sound low free

@@ -6,6 +6,7 @@ use Rattle.std.proofs.lemmas.List.Elements.{All-from_recursion}
 use Rattle.std.proofs.lemmas.Bool.{false≢true}
 use Rattle.rk_model.specs.declared.scenario.Scenario.{Scenario}
 use Rattle.rk_model.specs.declared.scenario.Init.{Init}
+use Rattle.rk_model.specs.declared.state.Life.TheVariants.{Started}
 use Rattle.rk_model.specs.declared.state.Thread.{Thread}
 use Rattle.rk_model.specs.Lists.{nth, times}
 use Rattle.rk_model.specs.State.{Plain, no_thread, thread_at}
@@ -13,8 +14,9 @@ use Rattle.rk_model.specs.Priorities.{is_eligible}
 use Rattle.rk_model.specs.Lines.{has_cpu}
 use Rattle.rk_model.specs.Running.{all_cpus}
 use Rattle.rk_model.specs.Histories.{begun, places, free_cluster, vacant, started, opening}
-use Rattle.rk_model.specs.Limits.{IsWithinLimits, cpus_in}
-use Rattle.rk_kernel.proofs.Bounds.{none_bounds}
+use Rattle.rk_model.specs.Scenarios.{cpus_in}
+use Rattle.rk_model.specs.Limits.{IsWithinLimits}
+use Rattle.rk_kernel.proofs.Bounds.{none_bounds, arrived_bounds}
 use Rattle.rk_kernel.specs.Sound.{stands, own, is_timed, AllSound, IsInBounds, IsSound, AllTimed, IsGentle}
 use Rattle.rk_model.proofs.Counts.{times-filter}
 use Rattle.rk_kernel.proofs.Tests.{and_false}
@@ -77,13 +79,13 @@ cpus-free [] = refl
 cpus-free (m ∷ counts) = omega (arith, length-append (replicate m (let n : Option ℕ = None in n)) (all_cpus (map free_cluster counts)), length-replicate {A = Option ℕ}, cpus-free counts)
 
 -- a thread of an init line is within its bounds
-bounds_begun : (s : Scenario) (init : Init) (m : ℕ) → init.cluster < m → IsInBounds m 0 (begun s init)
-bounds_begun s init m home = record { home = home; line = omega arith; working = λ w. omega arith; calling = λ w. absurd (false≢true w); apart = λ w. refl; computed = omega arith }
+bounds_begun : (s : Scenario) (init : Init) (m : ℕ) → IsWithinLimits s → init.cluster < m → IsInBounds m 0 (begun s init)
+bounds_begun s init m within home = arrived_bounds s m 0 (record no_thread { life = Started; home = init.cluster; base = init.prio; body = init.body }) 1 within.bodies within.targets home (omega arith) (omega arith) refl
 
-all_begun : (s : Scenario) (m n : ℕ) (inits : List Init) → 0 < m → AllByRecursion (λ (init : Init). init.cluster < m) inits → AllByRecursion (IsInBounds m 0) (places n (map (begun s) inits))
-all_begun s m zero inits some homes = tt
-all_begun s m (suc n) [] some homes = (none_bounds m 0 some, all_begun s m n [] some tt)
-all_begun s m (suc n) (init ∷ inits) some homes = (bounds_begun s init m homes.0, all_begun s m n inits some homes.1)
+all_begun : (s : Scenario) (m n : ℕ) (inits : List Init) → IsWithinLimits s → 0 < m → AllByRecursion (λ (init : Init). init.cluster < m) inits → AllByRecursion (IsInBounds m 0) (places n (map (begun s) inits))
+all_begun s m zero inits within some homes = tt
+all_begun s m (suc n) [] within some homes = (none_bounds m 0 some, all_begun s m n [] within some tt)
+all_begun s m (suc n) (init ∷ inits) within some homes = (bounds_begun s init m within homes.0, all_begun s m n inits within some homes.1)
 
 waits_not_from : (s : Scenario) (n : ℕ) (inits : List Init) (i : ℕ) → (get_or (places n (map (begun s) inits)) i no_thread).wait ≡ None
 waits_not_from s zero inits i = refl
@@ -108,7 +110,8 @@ sound_vacant s within =
       horizon = within.horizon;
       present = omega arith;
       bodies = within.bodies;
-      threads = rw size (All-from_recursion (IsInBounds (length s.clusters) 0) (places 64 []) (all_begun s (length s.clusters) 64 [] within.some_cluster tt));
+      targets = within.targets;
+      threads = rw size (All-from_recursion (IsInBounds (length s.clusters) 0) (places 64 []) (all_begun s (length s.clusters) 64 [] within within.some_cluster tt));
       clusters = all_free (vacant s) 0 s.clusters (no_place 64) within.few_cpus;
     }
 
@@ -121,7 +124,7 @@ gentle_started s within =
       present = refl;
       places = length-places 64 (map (begun s) s.inits) ∙ sym (length-places 64 []);
       homes = λ t h. absurd (false≢true (sym (never_eligible (vacant s) t (no_place 64 t)) ∙ h));
-      threads = rw size (All-from_recursion (IsInBounds (length s.clusters) 0) threads (all_begun s (length s.clusters) 64 s.inits within.some_cluster within.homes));
+      threads = rw size (All-from_recursion (IsInBounds (length s.clusters) 0) threads (all_begun s (length s.clusters) 64 s.inits within within.some_cluster within.homes));
       lines = keeps_same (vacant s).clusters;
       timers = all_untimed (started s) 0 s.clusters (waits_not s 64 s.inits);
     }

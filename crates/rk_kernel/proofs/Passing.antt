@@ -13,7 +13,7 @@ use Rattle.rk_model.specs.State.{Plain, ClusterState, no_thread, thread_at}
 use Rattle.rk_model.specs.Priorities.{is_eligible, is_started, is_no_wait, spins_in}
 use Rattle.rk_model.specs.Running.{runs_somewhere}
 use Rattle.rk_model.specs.Ticks.{charged, ticked, charge_from, pass}
-use Rattle.rk_kernel.specs.Sound.{IsSound, IsInBounds, AllSound, own, stands, is_timed, has_time}
+use Rattle.rk_kernel.specs.Sound.{AllLead, IsSound, IsInBounds, AllSound, own, stands, is_timed, has_time}
 use Rattle.rk_kernel.proofs.Bounds.{arrived_bounds}
 
 -- what holds at each of two outcomes of a test holds of the choice
@@ -77,26 +77,26 @@ sound_clusters k c (cluster ∷ clusters) sound = (
 )
 
 -- a thread that is charged in a tick is within the bounds after it
-charged_bounds : (s : Scenario) (n p : ℕ) (x : Thread) → AllByRecursion (λ (body : Body). length body.lines ≤ 1000) s.bodies → IsInBounds n p x → IsInBounds n (p + 1) (charged s x)
-charged_bounds s n p x short b =
+charged_bounds : (s : Scenario) (n p : ℕ) (x : Thread) → AllByRecursion (λ (body : Body). length body.lines ≤ 1000) s.bodies → AllLead s.bodies → IsInBounds n p x → IsInBounds n (p + 1) (charged s x)
+charged_bounds s n p x short lead b =
     let P : Thread → Type 0 = IsInBounds n (p + 1) in
     by_test P (eqb x.left 0) _ _ (λ _. record { home = b.home; line = b.line; working = b.working; calling = b.calling; apart = b.apart; computed = omega (arith, b.computed) })
     (λ some. by_test P (eqb x.left 1) _ _
     (λ one.
     let left : 0 < x.left = grind (arith, nat_tests) in
-    let a = arrived_bounds s n p x (x.line + 1) short b.home (omega (arith, b.working left)) b.computed (b.apart left) in
+    let a = arrived_bounds s n p x (x.line + 1) short lead b.home (omega (arith, b.working left)) b.computed (b.apart left) in
     record { home = a.home; line = a.line; working = a.working; calling = a.calling; apart = a.apart; computed = omega (arith, b.computed) })
     (λ more. record { home = b.home; line = b.line; working = λ w. b.working (omega (arith, w)); calling = b.calling; apart = λ w. b.apart (omega (arith, w)); computed = omega (arith, b.computed) }))
 
 later_bounds : (n p : ℕ) (x : Thread) → IsInBounds n p x → IsInBounds n (p + 1) x
 later_bounds n p x b = record { home = b.home; line = b.line; working = b.working; calling = b.calling; apart = b.apart; computed = omega (arith, b.computed) }
 
-charge_bounds : (k : Plain) (n t : ℕ) (ts : List Thread) → AllByRecursion (λ (body : Body). length body.lines ≤ 1000) k.scenario.bodies → AllByRecursion (IsInBounds n k.present) ts → AllByRecursion (IsInBounds n (k.present + 1)) (charge_from k t ts)
+charge_bounds : (k : Plain) (n t : ℕ) (ts : List Thread) → AllByRecursion (λ (body : Body). length body.lines ≤ 1000) k.scenario.bodies → AllLead k.scenario.bodies → AllByRecursion (IsInBounds n k.present) ts → AllByRecursion (IsInBounds n (k.present + 1)) (charge_from k t ts)
 unfolding ticked
-charge_bounds k n t [] short all = tt
-charge_bounds k n t (x ∷ xs) short all =
+charge_bounds k n t [] short lead all = tt
+charge_bounds k n t (x ∷ xs) short lead all =
     let P : Thread → Type 0 = IsInBounds n (k.present + 1) in
-    (by_test P (runs_somewhere k t) _ _ (λ _. charged_bounds k.scenario n k.present x short all.0) (λ _. later_bounds n k.present x all.0), charge_bounds k n (t + 1) xs short all.1)
+    (by_test P (runs_somewhere k t) _ _ (λ _. charged_bounds k.scenario n k.present x short lead all.0) (λ _. later_bounds n k.present x all.0), charge_bounds k n (t + 1) xs short lead all.1)
 
 -- A tick below the horizon keeps a state sound.
 pub sound_pass : (k : Plain) → IsSound k → k.present < k.scenario.horizon → IsSound (pass k)
@@ -108,6 +108,7 @@ sound_pass k sound below = record {
   horizon = sound.horizon;
   present = omega arith;
   bodies = sound.bodies;
-  threads = All-from_recursion (IsInBounds (length k.clusters) (k.present + 1)) _ (charge_bounds k (length k.clusters) 1 k.threads sound.bodies (recursion_from_All (IsInBounds (length k.clusters) k.present) k.threads sound.threads));
+  targets = sound.targets;
+  threads = All-from_recursion (IsInBounds (length k.clusters) (k.present + 1)) _ (charge_bounds k (length k.clusters) 1 k.threads sound.bodies sound.targets (recursion_from_All (IsInBounds (length k.clusters) k.present) k.threads sound.threads));
   clusters = sound_clusters k 0 k.clusters sound.clusters;
 }

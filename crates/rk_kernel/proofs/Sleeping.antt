@@ -4,7 +4,7 @@ use Rattle.std.specs.List.{range_with_len}
 use Rattle.std.proofs.lemmas.Bool.{false≢true}
 use Rattle.std.proofs.lemmas.Bool.Decides.{nat_tests}
 use Rattle.rk_model.specs.declared.scenario.Op.{Op}
-use Rattle.rk_model.specs.declared.scenario.Op.TheVariants.{Work, TaskWakeAfter}
+use Rattle.rk_model.specs.declared.scenario.Op.TheVariants.{Work, Goto, TaskSuspend, TaskResume, TaskWakeAfter}
 use Rattle.rk_model.specs.declared.entry.Reply.{Reply}
 use Rattle.rk_model.specs.declared.state.Wait.TheVariants.{ForTime}
 use Rattle.rk_model.specs.declared.state.Thread.{Thread}
@@ -14,7 +14,7 @@ use Rattle.rk_model.specs.Lists.{times}
 use Rattle.rk_model.specs.State.{Plain, no_thread, thread_at, put_thread, cluster_at, op_at}
 use Rattle.rk_model.specs.Timers.{sleepers, thread_of}
 use Rattle.rk_model.specs.Outcomes.{gone_on}
-use Rattle.rk_model.specs.Tasks.{yield, sleep}
+use Rattle.rk_model.specs.Tasks.{task_named, yield, sleep}
 use Rattle.rk_model.specs.Steps.{directive, back, action_on, action}
 use Rattle.rk_kernel.specs.Sound.{IsSound, IsGentle, is_timed, has_time}
 use Rattle.std.proofs.lemmas.List.{get_or_past, length-map}
@@ -23,7 +23,7 @@ use Rattle.rk_model.proofs.Counts.{length_by_times, length_range}
 use Rattle.rk_kernel.proofs.Bounds.{bounds_at, line_in, arrived_bounds}
 use Rattle.rk_kernel.proofs.Tests.{and_false}
 use Rattle.rk_kernel.proofs.Timing.{timers_at, never_timed}
-use Rattle.rk_kernel.proofs.Gentle.{gentle_put, gentle_timers, is_timed_here, is_timed_other, go_on_gentle, exit_gentle}
+use Rattle.rk_kernel.proofs.Gentle.{gentle_put, gentle_timers, is_timed_here, is_timed_other, go_on_gentle, suspend_gentle, resume_gentle, exit_gentle}
 
 -- one more timer
 sleepers-push : (u t due : ℕ) (timers : List Armed) → times u (sleepers (timers ++ (let x : Armed = record { who = OfThread t; due = due } in x) ∷ [])) ≡ times u (sleepers timers) + cond (eqb t u) 1 0
@@ -94,7 +94,7 @@ back_gentle k t reply sound none finished =
     let b = bounds_at k t sound in
     let low = b.calling (rw (none, finished) refl) in
     gentle_put k t (gone_on k.scenario (record (thread_at k t) { finished = None })) sound refl refl
-    (arrived_bounds k.scenario (length k.clusters) k.present (record (thread_at k t) { finished = None }) ((thread_at k t).line + 1) sound.bodies b.home (omega arith) b.computed (rw none refl))
+    (arrived_bounds k.scenario (length k.clusters) k.present (record (thread_at k t) { finished = None }) ((thread_at k t).line + 1) sound.bodies sound.targets b.home (omega arith) b.computed (rw none refl))
 
 wake_after_gentle : (k : Plain) (t ticks : ℕ) → IsSound k → 0 < t → t ≤ length k.threads → (thread_at k t).wait ≡ None → (thread_at k t).finished ≡ None → (thread_at k t).left ≡ 0 → (thread_at k t).line ≤ 1000 → (b : Bool) → eqb ticks 0 ≡ b → IsGentle k (cond b (yield k t) (sleep k t ticks)).next
 wake_after_gentle k t ticks sound above low none free done line true e = go_on_gentle k t sound line (rw (none, free) refl)
@@ -103,6 +103,9 @@ wake_after_gentle k t ticks sound above low none free done line false e = sleep_
 directive_gentle : (k : Plain) (t : ℕ) (o : Option Op) → IsSound k → 0 < t → t ≤ length k.threads → (thread_at k t).wait ≡ None → (thread_at k t).finished ≡ None → (thread_at k t).left ≡ 0 → (IsSome o → (thread_at k t).line ≤ 1000) → IsGentle k (directive k t o).next
 directive_gentle k t None sound above low none free done line = exit_gentle k t sound
 directive_gentle k t (Some (Work n)) sound above low none free done line = exit_gentle k t sound
+directive_gentle k t (Some (Goto target)) sound above low none free done line = exit_gentle k t sound
+directive_gentle k t (Some (TaskSuspend id)) sound above low none free done line = suspend_gentle k t (task_named k t id) sound (line refl) (rw (none, free) refl)
+directive_gentle k t (Some (TaskResume id)) sound above low none free done line = resume_gentle k t (task_named k t id) sound (line refl) (rw (none, free) refl)
 directive_gentle k t (Some (TaskWakeAfter n)) sound above low none free done line = wake_after_gentle k t n sound above low none free done (line refl) (eqb n 0) refl
 
 action_on_gentle : (k : Plain) (t : ℕ) (finished : Option Reply) → (thread_at k t).finished ≡ finished → IsSound k → 0 < t → t ≤ length k.threads → (thread_at k t).wait ≡ None → (thread_at k t).left ≡ 0 → IsGentle k (action_on k t finished).next

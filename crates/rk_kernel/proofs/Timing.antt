@@ -26,6 +26,11 @@ pub timed_same : (k next : Plain) (c : ℕ) (clusters : List ClusterState) → (
 timed_same k next c [] same sound = tt
 timed_same k next c (cluster ∷ clusters) same sound = (λ t. rw (same c t) (sound.0.timers t), timed_same k next (c + 1) clusters same sound.1)
 
+-- where they have timers as after another change
+pub timed_again : (m next : Plain) (c : ℕ) (clusters : List ClusterState) → ((d t : ℕ) → is_timed next d t ≡ is_timed m d t) → AllTimed m c clusters → AllTimed next c clusters
+timed_again m next c [] same timed = tt
+timed_again m next c (cluster ∷ clusters) same timed = (λ t. rw (same c t) (timed.0 t), timed_again m next (c + 1) clusters same timed.1)
+
 -- the same for clusters of greater numbers than h
 timed_behind : (k next : Plain) (h c : ℕ) (clusters : List ClusterState) → h < c → ((d t : ℕ) → d ≢ h → is_timed next d t ≡ is_timed k d t) → AllSound k c clusters → AllTimed next c clusters
 timed_behind k next h c [] above same sound = tt

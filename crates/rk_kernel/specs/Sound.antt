@@ -12,6 +12,7 @@ use Rattle.rk_model.specs.Priorities.{is_eligible}
 use Rattle.rk_model.specs.Lines.{has_cpu}
 use Rattle.rk_model.specs.Running.{cpu_count}
 use Rattle.rk_model.specs.Timers.{sleepers}
+use Rattle.rk_model.specs.Limits.{LeadsWithin}
 
 -- whether a thread is eligible and of this home
 unfoldable pub stands : Plain → ℕ → ℕ → Bool
@@ -60,6 +61,10 @@ pub record IsInBounds (clusters present : ℕ) (thread : Thread) : Type 0 where
   pub apart : 0 < thread.left → is_in_call thread.wait thread.finished ≡ false
   pub computed : thread.computed ≤ present
 
+-- each goto of these bodies leads to a line from 1 to 1,000
+abbrev pub AllLead : List Body → Type 0
+AllLead bodies = AllByRecursion (λ (body : Body). AllByRecursion LeadsWithin body.lines) bodies
+
 -- A state that a run may reach: sizes and numbers are within their limits, each thread is in bounds, and each cluster is sound.
 pub record IsSound (k : Plain) : Type 0 where
   pub places : length k.threads ≡ 64
@@ -69,6 +74,7 @@ pub record IsSound (k : Plain) : Type 0 where
   pub horizon : k.scenario.horizon ≤ 1000000
   pub present : k.present ≤ k.scenario.horizon
   pub bodies : AllByRecursion (λ (body : Body). length body.lines ≤ 1000) k.scenario.bodies
+  pub targets : AllLead k.scenario.bodies
   pub threads : All (IsInBounds (length k.clusters) k.present) k.threads
   pub clusters : AllSound k 0 k.clusters
 

@@ -7,7 +7,7 @@ ghost use Rattle.rk_model.specs.Ticks.{charged, ticked, charge_from, pass, fire_
 ghost use Rattle.rk_kernel.specs.Firing.{due_now, FiresFirst};
 ghost use Rattle.rk_kernel.specs.Noted.{IsNoted};
 ghost use Rattle.rk_kernel.specs.Pieces.{plain_of};
-ghost use Rattle.rk_kernel.specs.Sound.{IsSound, IsInBounds};
+ghost use Rattle.rk_kernel.specs.Sound.{IsSound, IsInBounds, AllLead};
 ghost use Rattle.rk_kernel.specs.Step.{IsTick};
 
 use crate::core_state::{Core, Scratch};
@@ -21,6 +21,7 @@ use std::mem;
 
 /// The thread after a tick through which it ran.
 fn charge_thread(scenario: &Scenario, thread: Thread) -> Thread
+    requires targets { AllLead scenario.now.bodies }
     requires line { 0 < thread.left → thread.line ≤ 1000 }
     requires computed { thread.computed ≤ 1000000 }
     ensures { result ≡ charged scenario.now thread }
@@ -46,6 +47,7 @@ fn charge_thread(scenario: &Scenario, thread: Thread) -> Thread
 #[tactic(auto, unfolding(rk_model::specs::Ticks::ticked))]
 fn tick_thread(core: &Core, index: ThreadIx, thread: Thread) -> Thread
     requires cpus { cpu_count (plain_of core.now) ≤ 8 }
+    requires targets { AllLead core.now.scenario.bodies }
     requires line { 0 < thread.left → thread.line ≤ 1000 }
     requires computed { thread.computed ≤ 1000000 }
     ensures { result ≡ ticked (plain_of core.now) index thread }
@@ -63,6 +65,7 @@ fn charge_into(out: &mut Items<Thread>, core: &Core)
     requires size { length out.old ≡ 64 }
     requires cpus { cpu_count (plain_of core.now) ≤ 8 }
     requires present { core.now.present ≤ 1000000 }
+    requires targets { AllLead core.now.scenario.bodies }
     requires bounds { All (IsInBounds (length core.now.clusters) core.now.present) core.now.threads }
     ensures { out.new ≡ charge_from (plain_of core.now) 1 core.now.threads }
 {

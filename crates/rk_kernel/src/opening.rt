@@ -4,7 +4,7 @@ ghost use Rattle.rk_model.specs.Limits.{IsWithinLimits};
 ghost use Rattle.rk_model.specs.Scenarios.{cpus_in};
 ghost use Rattle.rk_kernel.specs.Noted.{IsNoted};
 ghost use Rattle.rk_kernel.specs.Pieces.{cluster_of, clusters_of, plain_of};
-ghost use Rattle.rk_kernel.specs.Sound.{IsSound};
+ghost use Rattle.rk_kernel.specs.Sound.{IsSound, AllLead};
 
 use crate::core_state::{ClusterPart, Core, Line, Scratch, Timers};
 use crate::places::arrive;
@@ -105,6 +105,7 @@ fn make_vacant(alloc: Global, scenario: &Scenario) -> Result<Core, NoMemory>
 
 /// The thread of an init line.
 fn begin(scenario: &Scenario, init: &Init) -> Thread
+    requires { AllLead scenario.now.bodies }
     ensures { result ≡ begun scenario.now init.now }
 {
     let thread = Thread {
@@ -121,6 +122,7 @@ fn begin(scenario: &Scenario, init: &Init) -> Thread
 fn start_all(threads: &mut Items<Thread>, scenario: &Scenario)
     requires places { threads.old ≡ places 64 [] }
     requires few { length scenario.now.inits ≤ 64 }
+    requires targets { AllLead scenario.now.bodies }
     ensures { threads.new ≡ places 64 (map (begun scenario.now) scenario.now.inits) }
 {
     for at in 0..scenario.inits.len() {

@@ -2,15 +2,28 @@ ghost use Rattle.std.specs.Prelude.{◌≡◌, ◌<◌, ◌≤◌, ◌+◌, ◌-
 ghost use Rattle.std.specs.List.{slice_index_or};
 ghost use Rattle.rk_model.specs.State.{put_thread, thread_at};
 ghost use Rattle.rk_model.specs.Running.{all_cpus, cpu_count, running, caller, least, least_from, runs_from, runs_somewhere, is_run_of, why_of};
-ghost use Rattle.rk_model.specs.Outcomes.{work_at, arrived};
+ghost use Rattle.rk_model.specs.Outcomes.{landing, work_at, arrived};
 ghost use Rattle.rk_kernel.specs.Pieces.{plain_of, clusters_of};
+ghost use Rattle.rk_kernel.specs.Sound.{AllLead};
 
 use crate::core_state::{ClusterPart, Core};
 use crate::standing::{spins, thread_of};
 use rk_model::{Op, Scenario, Thread, ThreadIx, View, Why};
 
+/// The line of a body at which a thread is that would arrive at a line.
+#[tactic(auto, using(crate::proofs::Bounds::goto_within), unfolding(rk_model::specs::Outcomes::landing))]
+fn land(scenario: &Scenario, body: u8, line: u16) -> u16
+    requires { AllLead scenario.now.bodies }
+    ensures { result ≡ landing scenario.now body line }
+{
+    match scenario.op_at(body, line) {
+        Some(Op::Goto(target)) => target as u16,
+        _ => line,
+    }
+}
+
 /// The work that a thread has on arriving at a line.
-pub(crate) fn work_of(op: Option<Op>) -> u32
+fn work_of(op: Option<Op>) -> u32
     ensures { result ≡ work_at op }
 {
     match op {
@@ -19,10 +32,12 @@ pub(crate) fn work_of(op: Option<Op>) -> u32
     }
 }
 
-/// A thread that has arrived at a line of its body.
+/// A thread that has arrived at a line of its body. At a goto it has arrived at the target.
 pub(crate) fn arrive(scenario: &Scenario, thread: Thread, line: u16) -> Thread
+    requires { AllLead scenario.now.bodies }
     ensures { result ≡ arrived scenario.now thread line }
 {
+    let line = land(scenario, thread.body, line);
     let left = work_of(scenario.op_at(thread.body, line));
     Thread {
         line,
