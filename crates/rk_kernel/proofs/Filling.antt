@@ -33,7 +33,9 @@ nowhere before now last ts c t b n = no_change ((nth no_thread ts t).home == c) 
 -- before the first thread there is none
 pub filled_none : (before now : List Standing) (last : List ℕ) (ts : List Thread) (c t : ℕ) → None ≡ filled_up_to 0 before now last ts c t
 filled_none before now last ts c zero = sym (nowhere before now last ts c zero refl refl)
-filled_none before now last ts c (suc i) = refl
+filled_none before now last ts c (suc i) =
+    let past : nat_le (suc i) 0 ≡ false = grind (arith, nat_tests) in
+    rw past refl
 
 up_to_more : (t n : ℕ) (b : Bool) → ((n + 1) == t) ≡ b → b ≡ false → nat_le t (n + 1) ≡ nat_le t n
 up_to_more t n b e f = grind (arith, nat_tests, e, f)

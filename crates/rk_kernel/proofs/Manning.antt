@@ -22,10 +22,9 @@ use Rattle.rk_kernel.specs.Laws.{seats, ProcessorsHaveTheRunners, NoneRunsTwice}
 use Rattle.rk_kernel.proofs.Moving.{line_moved, standing_at, length-standings}
 use Rattle.rk_kernel.proofs.Assigning.{length-assigned}
 use Rattle.rk_kernel.proofs.Passing.{passed_steady}
-use Rattle.rk_kernel.proofs.Sorting.{none_urgent}
 use Rattle.rk_kernel.proofs.Belonging.{own_once, sound_at}
 use Rattle.rk_kernel.proofs.Seats.{seats_assigned}
-use Rattle.rk_kernel.proofs.Ranking.{most_few, times-most_urgent}
+use Rattle.rk_kernel.proofs.Ranking.{none_urgent, most_few, times-most_urgent}
 use Rattle.rk_kernel.proofs.Reached.{IsKept, kept_after}
 
 -- the processors of a cluster have the most urgent threads of its line, each on one

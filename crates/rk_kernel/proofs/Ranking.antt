@@ -10,7 +10,11 @@ use Rattle.rk_kernel.specs.Laws.{StandsUrgent, RunnersAreTheMostUrgent}
 
 use Rattle.rk_kernel.proofs.Tests.{equal_test}
 use Rattle.rk_kernel.proofs.Assigning.{either, or_front, or_back, has-append, option_has}
-use Rattle.rk_line.proofs.Sorting.{upto-append, under-append, upto-le, under-le, upto-le_under, under-le_upto, rank_counts, all_inserted, sorted_line, sort_of, most_sorted}
+use Rattle.rk_line.proofs.Sorting.{upto-append, under-append, upto-le, under-le, upto-le_under, under-le_upto, rank_counts, inserted, all_inserted, sorted_line, sort_of, most_sorted}
+
+pub none_urgent : (key : ℕ → ℕ) (m : ℕ) → most_urgent key m [] ≡ []
+none_urgent key zero = refl
+none_urgent key (suc m) = rw (none_urgent key m) refl
 
 -- there are at most m of them
 pub most_few : (key : ℕ → ℕ) (m : ℕ) (line : List ℕ) → length (most_urgent key m line) ≤ m

@@ -5,7 +5,7 @@ ghost use Rattle.rk_model.specs.Priorities.{spins as spins_of, is_eligible, prio
 ghost use Rattle.rk_kernel.specs.Pieces.{plain_of};
 
 use crate::core_state::Core;
-use rk_model::{Items, Life, Standing, Thread, ThreadIx, Wait};
+use rk_model::{Items, Life, Prio, Standing, Thread, ThreadIx, Wait};
 
 /// The thread of an index, or what stands where there is none.
 pub(crate) fn thread_of(threads: &[Thread], thread: ThreadIx) -> Thread
