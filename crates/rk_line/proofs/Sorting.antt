@@ -1,8 +1,8 @@
 -- The threads of a line by their rank are the line sorted by urgency.
-use Rattle.std.proofs.Common.{◌≡◌, ℕ, zero, suc, ◌+◌, ◌-◌, ◌<◌, ◌≤◌, List, [], ◌∷◌, ◌++◌, Bool, true, false, cond, ◌==◌, if◌then◌else◌, nat_le, nat_lt, ◌⊎◌, inl, inr, ⊎_elim, Option, Some, length, take, drop, get_or, arith, refl, ap, sym, ◌∙◌, append_assoc, add-one}
+use Rattle.std.proofs.Common.{◌≡◌, ℕ, zero, suc, ◌+◌, ◌<◌, ◌≤◌, List, [], ◌∷◌, ◌++◌, Bool, true, false, cond, ◌==◌, if◌then◌else◌, nat_le, nat_lt, ◌⊎◌, inl, inr, ⊎_elim, Option, Some, take, arith, refl, ap, sym, ◌∙◌, append_assoc}
 use Rattle.std.specs.List.{slice_get, count_by}
 use Rattle.std.specs.Option.{option_to_list}
-use Rattle.std.proofs.lemmas.List.{take-take, append-nil, take_all, length-take, take-append-le, take_rest, take_more}
+use Rattle.std.proofs.lemmas.List.{append-nil}
 use Rattle.std.proofs.lemmas.List.Recursion.{is_count_by}
 use Rattle.std.proofs.lemmas.Bool.Decides.{nat_tests}
 use Rattle.std.proofs.lemmas.Bool.{cases_lt}
@@ -225,7 +225,7 @@ get_above key n t (u ∷ us) ordered h = above-either key n t u us (nat_lt (key 
 pub record IsSortOf (key : ℕ → ℕ) (line sorted : List ℕ) : Type 0 where
   ordered : Ordered key sorted
   counts : (p : ℕ) → upto key p sorted ≡ upto key p line
-  found : (n : ℕ) → nth_urgent key n line ≡ slice_get sorted n
+  pub found : (n : ℕ) → nth_urgent key n line ≡ slice_get sorted n
 
 sort_below : (key : ℕ → ℕ) (n t : ℕ) (line sorted : List ℕ) → IsSortOf key line sorted → n < upto key (key t) line → nth_urgent key n (line ++ t ∷ []) ≡ slice_get (inserted key t sorted) n
 sort_below key n t line sorted is h = find_below key n t [] line h ∙ is.found n ∙ sym (get_below key n t sorted is.ordered (rw (is.counts (key t)) h))

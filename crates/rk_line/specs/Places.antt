@@ -1,5 +1,6 @@
 -- Lines as lists of places, each of which has a thread and its priority.
-use Rattle.std.specs.Prelude.{ℕ, ◌≡◌, ◌≤◌, true, List, [], ◌∷◌, ◌==◌, not, map, filter, if◌then◌else◌}
+use Rattle.std.specs.Prelude.{ℕ, ◌≡◌, ◌≤◌, true, List, [], ◌∷◌, ◌==◌, not, map, filter, count_by, nat_le, nat_lt, ◌+◌, if◌then◌else◌}
+use Rattle.std.specs.List.{slice_index_or}
 use Rattle.rk_model.specs.Lists.{has, times}
 use Rattle.rk_line.specs.declared.line.Place.{Place}
 
@@ -28,3 +29,11 @@ with_prio t prio line = map (with_prio_at t prio) line
 pub record IsLine (line : List Place) : Type 0 where
   pub once : (t : ℕ) → times t (threads line) ≤ 1
   pub within : (t : ℕ) → has (threads line) t ≡ true → (1 ≤ t) × (t ≤ 64)
+
+-- the priority of a place of a line, from 0; 0 where it has no such place
+abbrev pub prio_at : List Place → ℕ → ℕ
+prio_at line at = slice_index_or (map (λ (place : Place). place.prio) line) at 0
+
+-- How many places are more urgent than one of a priority that stands between two parts of a line: those in front of it whose priority is its own or less, and those behind it whose priority is less.
+abbrev pub more_urgent : List Place → ℕ → List Place → ℕ
+more_urgent front prio back = count_by (λ (place : Place). nat_le place.prio prio) front + count_by (λ (place : Place). nat_lt place.prio prio) back

@@ -1,7 +1,8 @@
-ghost use Rattle.std.specs.Prelude.{◌≡◌, [], ◌∷◌, ◌++◌, ◌<◌, IfOk, true, false};
+ghost use Rattle.std.specs.Prelude.{◌≡◌, [], ◌∷◌, ◌++◌, ◌+◌, ◌<◌, ◌≤◌, ◌==◌, IfOk, IfSome, IfNone, true, false, nat_le, length, take, drop, count_by};
+ghost use Rattle.std.specs.List.{position_or_len, slice_index_or};
 ghost use Rattle.rk_model.specs.Lists.{has};
 ghost use Rattle.rk_model.specs.Lines.{nth_urgent};
-ghost use Rattle.rk_line.specs.Places.{threads, prio_in, without, with_prio};
+ghost use Rattle.rk_line.specs.Places.{threads, prio_in, without, with_prio, prio_at, more_urgent};
 
 use rk_model::{Bounded, NoMemory, Prio, ThreadIx};
 use std::alloc::Global;
@@ -14,6 +15,19 @@ pub struct Place {
     pub thread: ThreadIx,
     /// Its priority.
     pub prio: Prio,
+}
+
+impl Place {
+    /// The place of a thread that has a priority there.
+    pub fn new(thread: ThreadIx, prio: Prio) -> Place
+        ensures value { result ≡ record { thread = thread; prio = prio } }
+        ensures low { 1 ≤ result.thread }
+        ensures high { result.thread ≤ 64 }
+    {
+        // Reading the index tells its range.
+        let _index = thread.at();
+        Place { thread, prio }
+    }
 }
 
 /// A line of at most 64 threads, each of which stands in it once. Contracts see the list of its
@@ -53,7 +67,7 @@ impl Line {
     pub fn contains(&self, thread: ThreadIx) -> bool
         ensures { result ≡ has (threads self.now) thread }
     {
-        unreachable!()
+        place_of(self.places.as_slice(), thread) < self.places.len()
     }
 
     /// Puts a thread behind all others. It takes no memory.
@@ -61,7 +75,7 @@ impl Line {
         requires { has (threads self.old) thread ≡ false }
         ensures { self.new ≡ self.old ++ (record { thread = thread; prio = prio }) ∷ [] }
     {
-        unreachable!()
+        self.places.push(Place::new(thread, prio));
     }
 
     /// Puts a thread in front of all others. It takes no memory.
@@ -69,7 +83,7 @@ impl Line {
         requires { has (threads self.old) thread ≡ false }
         ensures { self.new ≡ (record { thread = thread; prio = prio }) ∷ self.old }
     {
-        unreachable!()
+        self.places.insert(0, Place::new(thread, prio));
     }
 
     /// Takes a thread out.
@@ -77,7 +91,8 @@ impl Line {
         requires { has (threads self.old) thread ≡ true }
         ensures { self.new ≡ without thread self.old }
     {
-        unreachable!()
+        let at = place_of(self.places.as_slice(), thread);
+        self.places.take(at);
     }
 
     /// Gives a thread another priority at its place.
@@ -85,15 +100,68 @@ impl Line {
         requires { has (threads self.old) thread ≡ true }
         ensures { self.new ≡ with_prio thread prio self.old }
     {
-        unreachable!()
+        let at = place_of(self.places.as_slice(), thread);
+        self.places.set(at, Place { thread, prio });
     }
 
     /// The thread with exactly `n` more urgent ones: those whose priority is less, and those whose
     /// priority is equal and which stand in front of it. `None` exactly where the line has at most
     /// `n` threads.
     pub fn nth_urgent(&self, n: u8) -> Option<ThreadIx>
-        ensures { result ≡ nth_urgent (prio_in self.now) n (threads self.now) }
+        ensures value { result ≡ nth_urgent (prio_in self.now) n (threads self.now) }
+        ensures some { IfSome result (λ t. n < length self.now) }
+        ensures none { IfNone result (length self.now ≤ n) }
+        ensures stands { IfSome result (λ t. has (threads self.now) t ≡ true) }
     {
-        unreachable!()
+        let places = self.places.as_slice();
+        for (at, place) in places.iter().enumerate() {
+            if has_rank(places, at, n) {
+                return Some(place.thread);
+            }
+        }
+        None
+    }
+}
+
+/// How many places stand in front of a thread's; the number of places where it has none.
+fn place_of(places: &[Place], thread: ThreadIx) -> usize
+    ensures { result ≡ position_or_len (λ place. place.thread == thread) places.now }
+{
+    for (at, place) in places.iter().enumerate() {
+        if place.thread == thread {
+            return at;
+        }
+    }
+    places.len()
+}
+
+/// What is left of a number after one is taken away for each place whose priority is at most
+/// `most`. `None` exactly where there are more of these than the number; it stops at the first too
+/// many.
+fn left_after(places: &[Place], most: u8, number: u8) -> Option<u8>
+    ensures some { IfSome result (λ left. left + count_by (λ place. nat_le place.prio most) places.now ≡ number) }
+    ensures none { IfNone result (number < count_by (λ place. nat_le place.prio most) places.now) }
+{
+    let mut left = number;
+    for place in places {
+        if place.prio.level() <= most {
+            if left == 0 {
+                return None;
+            }
+            left -= 1;
+        }
+    }
+    Some(left)
+}
+
+/// Whether exactly `n` places are more urgent than that at `at`.
+fn has_rank(places: &[Place], at: usize, n: u8) -> bool
+    requires { at < length places.now }
+    ensures { result ≡ (more_urgent (take at places.now) (prio_at places.now at) (drop (at + 1) places.now) == n) }
+{
+    let prio = places[at].prio.level();
+    match left_after(&places[..at], prio, n) {
+        None => false,
+        Some(left) => left_after(&places[at + 1..], prio - 1, left) == Some(0),
     }
 }
