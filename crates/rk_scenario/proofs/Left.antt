@@ -4,8 +4,8 @@ use Rattle.rk_model.specs.declared.scenario.Op.{Op}
 use Rattle.rk_model.specs.declared.scenario.Body.{Body}
 use Rattle.rk_model.specs.declared.scenario.Init.{Init}
 use Rattle.rk_model.specs.declared.scenario.Scenario.{Scenario}
-use Rattle.rk_model.specs.Scenarios.{AreOps, AreBodies, AreDistinct, AreInits, IsCluster, IsTicks, IsInit}
-use Rattle.rk_model.specs.Reading.{Phase, Start, Headed, Clustered, Timed, InBody, InInits, Draft, init_operands}
+use Rattle.rk_model.specs.Scenarios.{AreOps, AreBodies, AreDistinct, AreInits, IsNumber, IsCluster, AreClusters, cpus_in, IsTicks, IsInit}
+use Rattle.rk_model.specs.Reading.{Phase, Start, Headed, Clustered, Timed, Limited, InBody, InInits, Draft, init_operands}
 
 -- init lines, after those of b
 pub record InitsLeft (b : Scenario) (told : List (List (List ℕ))) (s : Scenario) : Type 0 where
@@ -31,27 +31,47 @@ pub record BodyLeft (b : Scenario) (o : Body) (told : List (List (List ℕ))) (s
   pub rest : List (List (List ℕ))
   pub told_is : told ≡ inner ++ (codes "end" ∷ []) ∷ rest
   pub more : List Op
-  pub lines : AreOps inner more
+  pub lines : AreOps o.lines inner more
   pub few : length (o.lines ++ more) ≤ 1000
   pub after : BodiesLeft (record b { bodies = b.bodies ++ (record o { lines = o.lines ++ more }) ∷ [] }) rest s
 
--- the ticks, and what may follow them
-pub record TicksLeft (b : Scenario) (told : List (List (List ℕ))) (s : Scenario) : Type 0 where
+-- The lines are one line `limit N`, or none, and then the limit is as it was before.
+abbrev pub SetsLimit : ℕ → List (List (List ℕ)) → ℕ → Type 0
+SetsLimit before [] limit = limit ≡ before
+SetsLimit before (words ∷ []) limit = (number : List ℕ) × (words ≡ codes "limit" ∷ number ∷ []) × IsNumber number limit 1 1000000
+SetsLimit before (words ∷ more ∷ told) limit = ⊥
+
+-- the limit, if there is one, and what may follow it
+pub record LimitLeft (b : Scenario) (told : List (List (List ℕ))) (s : Scenario) : Type 0 where
+  pub limits : List (List (List ℕ))
+  pub rest : List (List (List ℕ))
+  pub told_is : told ≡ limits ++ rest
+  pub limit : ℕ
+  pub sets : SetsLimit b.limit limits limit
+  pub after : BodiesLeft (record b { limit = limit }) rest s
+
+-- clusters, after those of b, the ticks, and what may follow them
+pub record ClustersLeft (b : Scenario) (told : List (List (List ℕ))) (s : Scenario) : Type 0 where
+  pub clusters : List (List (List ℕ))
   pub ticks : List (List ℕ)
   pub rest : List (List (List ℕ))
-  pub told_is : told ≡ ticks ∷ rest
+  pub told_is : told ≡ clusters ++ ticks ∷ rest
+  pub more : List ℕ
+  pub clusters_are : AreClusters clusters more
+  pub few : length (b.clusters ++ more) ≤ 4
+  pub few_cpus : cpus_in (b.clusters ++ more) ≤ 8
   pub horizon : ℕ
-  pub is : IsTicks ticks horizon
-  pub after : BodiesLeft (record b { horizon = horizon }) rest s
+  pub ticks_are : IsTicks ticks horizon
+  pub after : LimitLeft (record b { clusters = b.clusters ++ more; horizon = horizon }) rest s
 
--- the one cluster, and what may follow it
+-- a cluster, after those of b, and what may follow it
 pub record ClusterLeft (b : Scenario) (told : List (List (List ℕ))) (s : Scenario) : Type 0 where
   pub cluster : List (List ℕ)
   pub rest : List (List (List ℕ))
   pub told_is : told ≡ cluster ∷ rest
-  pub is : IsCluster cluster 1
-  pub alone : b.clusters ≡ []
-  pub after : TicksLeft (record b { clusters = b.clusters ++ 1 ∷ [] }) rest s
+  pub cpus : ℕ
+  pub is : IsCluster cluster cpus
+  pub after : ClustersLeft (record b { clusters = b.clusters ++ cpus ∷ [] }) rest s
 
 -- the header, and what may follow it
 pub record HeaderLeft (b : Scenario) (told : List (List (List ℕ))) (s : Scenario) : Type 0 where
@@ -63,8 +83,9 @@ pub record HeaderLeft (b : Scenario) (told : List (List (List ℕ))) (s : Scenar
 abbrev pub Completes : Phase → Scenario → Body → List (List (List ℕ)) → Scenario → Type 0
 Completes Start b o told s = HeaderLeft b told s
 Completes Headed b o told s = ClusterLeft b told s
-Completes Clustered b o told s = TicksLeft b told s
-Completes Timed b o told s = BodiesLeft b told s
+Completes Clustered b o told s = ClustersLeft b told s
+Completes Timed b o told s = LimitLeft b told s
+Completes Limited b o told s = BodiesLeft b told s
 Completes InBody b o told s = BodyLeft b o told s
 Completes InInits b o told s = InitsLeft b told s
 
@@ -78,6 +99,7 @@ ends Start s = None
 ends Headed s = None
 ends Clustered s = None
 ends Timed s = Some s
+ends Limited s = Some s
 ends InBody s = None
 ends InInits s = Some s
 

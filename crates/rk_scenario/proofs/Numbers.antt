@@ -1,9 +1,11 @@
--- The value of digits may be capped at each step.
-use Rattle.std.proofs.Common.{◌≡◌, ℕ, ◌+◌, ◌*◌, ◌≤◌, min, List, [], ◌∷◌, ap, refl, inl, inr, Option, Some, None, arith}
+-- The value of digits may be capped at each step, and processors are counted.
+use Rattle.std.proofs.Common.{◌≡◌, ℕ, ◌+◌, ◌*◌, ◌≤◌, min, Bool, true, ◌&&◌, List, [], ◌∷◌, ◌++◌, length, length-append, ap, refl, inl, inr, Option, Some, None, arith}
 use Rattle.std.proofs.Math.Nat.{mul-le-mul_right}
-use Rattle.std.proofs.lemmas.Bool.{cases_lt}
+use Rattle.std.specs.Prelude.{nat_lt, nat_le}
+use Rattle.std.proofs.lemmas.Bool.{cases_lt, and_parts, leb-true, le-leb, ltb-true, lt-ltb}
 use Rattle.std.specs.Option.{option_map}
 use Rattle.rk_model.specs.Words.{value_from, value_on, digit_below, digit_value}
+use Rattle.rk_model.specs.Scenarios.{cpus_in}
 
 -- a value up to a cap
 abbrev pub capped : Option ℕ → Option ℕ
@@ -37,3 +39,31 @@ capped_step base v bytes low = capped_from base (min v 4294967296) v bytes low (
 pub capped_more : (base v d b : ℕ) (bytes rest : List ℕ) → 1 ≤ base → bytes ≡ b ∷ rest → digit_below base (digit_value b) ≡ Some d
     → capped (value_from base (min (base * v + d) 4294967296) rest) ≡ capped (value_from base v bytes)
 capped_more base v d b bytes rest low e known = rw (e, known) (capped_step base (base * v + d) rest low)
+
+-- the processors of two lists of clusters
+cpus_appended : (ms ns : List ℕ) → cpus_in (ms ++ ns) ≡ cpus_in ms + cpus_in ns
+cpus_appended [] ns = omega arith
+cpus_appended (m ∷ ms) ns = omega (arith, cpus_appended ms ns)
+
+-- whether there may be one cluster more, of so many processors
+abbrev pub has_room : List ℕ → ℕ → Bool
+has_room ms m = nat_lt (length ms) 4 && nat_le (cpus_in ms + m) 8
+
+-- where there may be one cluster more, there are at most four with it
+pub few_with : (ms : List ℕ) (m : ℕ) → has_room ms m ≡ true → length (ms ++ m ∷ []) ≤ 4
+few_with ms m room =
+    let both = and_parts (nat_lt (length ms) 4) (nat_le (cpus_in ms + m) 8) room in
+    omega (arith, ltb-true (length ms) 4 both.0, length-append ms (m ∷ []))
+
+-- where there may be one cluster more, there are at most 8 processors with it
+pub few_cpus_with : (ms : List ℕ) (m : ℕ) → has_room ms m ≡ true → cpus_in (ms ++ m ∷ []) ≤ 8
+few_cpus_with ms m room =
+    let both = and_parts (nat_lt (length ms) 4) (nat_le (cpus_in ms + m) 8) room in
+    omega (arith, leb-true (cpus_in ms + m) 8 both.1, cpus_appended ms (m ∷ []))
+
+-- there may be one cluster more where there are few with it
+pub room_for : (ms : List ℕ) (m : ℕ) (more : List ℕ) → length ((ms ++ m ∷ []) ++ more) ≤ 4 → cpus_in ((ms ++ m ∷ []) ++ more) ≤ 8 → has_room ms m ≡ true
+room_for ms m more few few_cpus =
+    let below = lt-ltb (length ms) 4 (omega (arith, length-append ms (m ∷ []), length-append (ms ++ m ∷ []) more, few)) in
+    let within = le-leb (cpus_in ms + m) 8 (omega (arith, cpus_appended ms (m ∷ []), cpus_appended (ms ++ m ∷ []) more, few_cpus)) in
+    rw (below, within) refl

@@ -11,11 +11,12 @@ use Rattle.rk_model.specs.declared.scenario.Scenario.{Scenario}
 use Rattle.rk_model.specs.declared.scenario.ScenarioWhy.{ScenarioWhy}
 use Rattle.rk_model.specs.declared.scenario.ScenarioWhy.TheVariants.{Header, NotYetBuilt}
 use Rattle.rk_model.specs.Words.{is_body_name}
-use Rattle.rk_model.specs.Scenarios.{AreDistinct, IsBody, IsInit, body_of}
-use Rattle.rk_model.specs.Reading.{Phase, Start, Headed, Clustered, Timed, InBody, InInits, Draft, number_operand, op_line, init_operands, is_header, is_end, with_cluster, with_body, with_op, with_init, cluster_line, ticks_line, body_line, inner_line, init_line, at_start, at_headed, at_clustered, at_timed, at_inits, in_body, after_told}
+use Rattle.rk_model.specs.Scenarios.{AreDistinct, IsBody, IsInit, body_of, cpus_in}
+use Rattle.rk_model.specs.Reading.{Phase, Start, Headed, Clustered, Timed, Limited, InBody, InInits, Draft, number_operand, op_line, init_operands, is_header, is_end, with_cluster, with_body, with_op, with_init, cluster_line, ticks_line, limit_line, body_line, inner_line, init_line, at_start, at_headed, at_clustered, at_timed, at_limited, at_inits, in_body, after_told}
 use Rattle.rk_scenario.proofs.Spelled.{bind_ok, then_ok, else_ok, either_ok, ok_is, text_is, number_ok, op_ok, init_ok}
+use Rattle.rk_scenario.proofs.Numbers.{has_room, few_with, few_cpus_with}
 use Rattle.rk_scenario.proofs.Named.{distinct_more}
-use Rattle.rk_scenario.proofs.Left.{InitsLeft, BodiesLeft, BodyLeft, Completes, draft_at, ends, IsInit-kept}
+use Rattle.rk_scenario.proofs.Left.{InitsLeft, BodiesLeft, BodyLeft, LimitLeft, ClustersLeft, ClusterLeft, Completes, draft_at, ends, IsInit-kept}
 
 -- the place of the open body among the bodies
 abbrev pub opened : Phase → ℕ
@@ -23,6 +24,7 @@ opened Start = 0
 opened Headed = 0
 opened Clustered = 0
 opened Timed = 0
+opened Limited = 0
 opened InBody = 1
 opened InInits = 0
 
@@ -32,6 +34,7 @@ IsFresh Start bodies name = Unit {0}
 IsFresh Headed bodies name = Unit {0}
 IsFresh Clustered bodies name = Unit {0}
 IsFresh Timed bodies name = Unit {0}
+IsFresh Limited bodies name = Unit {0}
 IsFresh InBody bodies name = body_of bodies name ≡ None
 IsFresh InInits bodies name = Unit {0}
 
@@ -41,12 +44,15 @@ IsAlone Start clusters = clusters ≡ []
 IsAlone Headed clusters = clusters ≡ []
 IsAlone Clustered clusters = Unit {0}
 IsAlone Timed clusters = Unit {0}
+IsAlone Limited clusters = Unit {0}
 IsAlone InBody clusters = Unit {0}
 IsAlone InInits clusters = Unit {0}
 
 -- what a draft keeps
 pub record Keeps (p : Phase) (b : Scenario) (o : Body) : Type 0 where
-  pub clusters : IsAlone p b.clusters
+  pub alone : IsAlone p b.clusters
+  pub clusters : length b.clusters ≤ 4
+  pub cpus : cpus_in b.clusters ≤ 8
   pub bodies : length b.bodies + opened p ≤ 32
   pub distinct : AreDistinct b.bodies
   pub fresh : IsFresh p b.bodies o.name
@@ -74,62 +80,87 @@ start_sound b o words next e keeps =
     let t = then_ok (is_header words) (Ok (draft_at Headed b o)) Header next e in
     let is = header_is words t.0 in
     subst (λ (x : Draft). IsSound Start b o words x) (ok_is (draft_at Headed b o) next t.1) (record {
-      keeps = record { clusters = keeps.clusters; bodies = keeps.bodies; distinct = keeps.distinct; fresh = tt; lines = keeps.lines; inits = keeps.inits };
+      keeps = record { alone = keeps.alone; clusters = keeps.clusters; cpus = keeps.cpus; bodies = keeps.bodies; distinct = keeps.distinct; fresh = tt; lines = keeps.lines; inits = keeps.inits };
       back = λ told s left. record { rest = told; told_is = ap (λ (w : List (List ℕ)). w ∷ told) is; after = left };
     })
 
--- ---- the cluster
+-- ---- clusters and the ticks
 
-none_before : (ms : List ℕ) → nat_lt (length ms) 1 ≡ true → ms ≡ []
-none_before [] e = refl
-none_before (m ∷ ms) e = absurd (let lt : length (m ∷ ms) < 1 = ltb-true (length (m ∷ ms)) 1 e in omega arith)
-
-cluster_sound : (b : Scenario) (o : Body) (operands : List (List ℕ)) (next : Draft) → cluster_line (draft_at Headed b o) operands ≡ Ok next → Keeps Headed b o → IsSound Headed b o (codes "cluster" ∷ operands) next
+-- A cluster may come after the header and after another cluster.
+cluster_sound : (p : Phase) (b : Scenario) (o : Body) (operands : List (List ℕ)) (next : Draft) → cluster_line (draft_at p b o) operands ≡ Ok next → Keeps Clustered b o → IsSound Headed b o (codes "cluster" ∷ operands) next
 unfolding cluster_line
-cluster_sound b o [] next e keeps = absurd cc
-cluster_sound b o (count ∷ []) next e keeps =
-    let d = draft_at Headed b o in
-    let m = bind_ok (number_operand 1 1 count) (λ m. cond (nat_lt (length b.clusters) 1) (Ok (with_cluster d m)) (Err NotYetBuilt)) next e in
-    let t = then_ok (nat_lt (length b.clusters) 1) (Ok (with_cluster d m.0)) NotYetBuilt next m.2 in
-    let number = number_ok 1 1 count m.0 m.1 in
-    let one : m.0 ≡ 1 = omega (arith, number.low, number.high) in
-    let is : with_cluster d 1 ≡ next = ap (λ (k : ℕ). with_cluster d k) (sym one) ∙ ok_is (with_cluster d m.0) next t.1 in
-    subst (λ (x : Draft). IsSound Headed b o (codes "cluster" ∷ count ∷ []) x) is (record {
-      keeps = record { clusters = tt; bodies = keeps.bodies; distinct = keeps.distinct; fresh = tt; lines = keeps.lines; inits = keeps.inits };
+cluster_sound p b o [] next e keeps = absurd cc
+cluster_sound p b o (count ∷ []) next e keeps =
+    let d = draft_at p b o in
+    let m = bind_ok (number_operand 1 8 count) (λ m. cond (has_room b.clusters m) (Ok (with_cluster d m)) (Err NotYetBuilt)) next e in
+    let t = then_ok (has_room b.clusters m.0) (Ok (with_cluster d m.0)) NotYetBuilt next m.2 in
+    subst (λ (x : Draft). IsSound Headed b o (codes "cluster" ∷ count ∷ []) x) (ok_is (with_cluster d m.0) next t.1) (record {
+      keeps = record {
+        alone = tt;
+        clusters = few_with b.clusters m.0 t.0;
+        cpus = few_cpus_with b.clusters m.0 t.0;
+        bodies = keeps.bodies;
+        distinct = keeps.distinct;
+        fresh = tt;
+        lines = keeps.lines;
+        inits = keeps.inits;
+      };
       back = λ told s left. record {
         cluster = codes "cluster" ∷ count ∷ [];
         rest = told;
         told_is = refl;
-        is = (count, refl, record { value = number.value ∙ ap (λ (k : ℕ). Some k) one; low = omega arith; high = omega arith });
-        alone = none_before b.clusters t.0;
+        cpus = m.0;
+        is = (count, refl, number_ok 1 8 count m.0 m.1);
         after = left;
       };
     })
-cluster_sound b o (count ∷ more ∷ words) next e keeps = absurd cc
+cluster_sound p b o (count ∷ more ∷ words) next e keeps = absurd cc
 
-headed_sound : (b : Scenario) (o : Body) (words : List (List ℕ)) (next : Draft) → at_headed (draft_at Headed b o) words ≡ Ok next → Keeps Headed b o → IsSound Headed b o words next
-headed_sound b o [] next e keeps = absurd cc
-headed_sound b o (first ∷ operands) next e keeps =
-    let t = then_ok (bytes_eq first (codes "cluster")) (cluster_line (draft_at Headed b o) operands) NotYetBuilt next e in
-    rw (text_is first (codes "cluster") t.0) (cluster_sound b o operands next t.1 keeps)
+headed_sound : (p : Phase) (b : Scenario) (o : Body) (words : List (List ℕ)) (next : Draft) → at_headed (draft_at p b o) words ≡ Ok next → Keeps Clustered b o → IsSound Headed b o words next
+headed_sound p b o [] next e keeps = absurd cc
+headed_sound p b o (first ∷ operands) next e keeps =
+    let t = then_ok (bytes_eq first (codes "cluster")) (cluster_line (draft_at p b o) operands) NotYetBuilt next e in
+    rw (text_is first (codes "cluster") t.0) (cluster_sound p b o operands next t.1 keeps)
 
--- ---- the ticks
+-- one cluster more may come before others
+clusters_cons : (b : Scenario) (told : List (List (List ℕ))) (s : Scenario) → ClusterLeft b told s → ClustersLeft b told s
+clusters_cons b told s left =
+    let join : (b.clusters ++ left.cpus ∷ []) ++ left.after.more ≡ b.clusters ++ left.cpus ∷ left.after.more = append_assoc b.clusters (left.cpus ∷ []) left.after.more in
+    record {
+      clusters = left.cluster ∷ left.after.clusters;
+      ticks = left.after.ticks;
+      rest = left.after.rest;
+      told_is = left.told_is ∙ ap (λ (x : List (List (List ℕ))). left.cluster ∷ x) left.after.told_is;
+      more = left.cpus ∷ left.after.more;
+      clusters_are = (left.is, left.after.clusters_are);
+      few = subst (λ (x : List ℕ). length x ≤ 4) join left.after.few;
+      few_cpus = subst (λ (x : List ℕ). cpus_in x ≤ 8) join left.after.few_cpus;
+      horizon = left.after.horizon;
+      ticks_are = left.after.ticks_are;
+      after = subst (λ (x : List ℕ). LimitLeft (record b { clusters = x; horizon = left.after.horizon }) left.after.rest s) join left.after.after;
+    }
 
 ticks_sound : (b : Scenario) (o : Body) (operands : List (List ℕ)) (next : Draft) → ticks_line (draft_at Clustered b o) operands ≡ Ok next → Keeps Clustered b o → IsSound Clustered b o (codes "ticks" ∷ operands) next
 unfolding ticks_line
 ticks_sound b o [] next e keeps = absurd cc
 ticks_sound b o (ticks ∷ []) next e keeps =
     let after : ℕ → Draft = λ n. draft_at Timed (record b { horizon = n }) o in
-    let n = bind_ok (number_operand 0 1000 ticks) (λ n. Ok (after n)) next e in
+    let n = bind_ok (number_operand 0 1000000 ticks) (λ n. Ok (after n)) next e in
+    let none : b.clusters ++ [] ≡ b.clusters = append-nil b.clusters in
     subst (λ (x : Draft). IsSound Clustered b o (codes "ticks" ∷ ticks ∷ []) x) (ok_is (after n.0) next n.2) (record {
-      keeps = record { clusters = tt; bodies = keeps.bodies; distinct = keeps.distinct; fresh = tt; lines = keeps.lines; inits = keeps.inits };
+      keeps = record { alone = tt; clusters = keeps.clusters; cpus = keeps.cpus; bodies = keeps.bodies; distinct = keeps.distinct; fresh = tt; lines = keeps.lines; inits = keeps.inits };
       back = λ told s left. record {
+        clusters = [];
         ticks = codes "ticks" ∷ ticks ∷ [];
         rest = told;
         told_is = refl;
+        more = [];
+        clusters_are = tt;
+        few = subst (λ (x : List ℕ). length x ≤ 4) (sym none) keeps.clusters;
+        few_cpus = subst (λ (x : List ℕ). cpus_in x ≤ 8) (sym none) keeps.cpus;
         horizon = n.0;
-        is = record { ticks = ticks; words_are = refl; number = number_ok 0 1000 ticks n.0 n.1 };
-        after = left;
+        ticks_are = record { ticks = ticks; words_are = refl; number = number_ok 0 1000000 ticks n.0 n.1 };
+        after = subst (λ (x : List ℕ). LimitLeft (record b { clusters = x; horizon = n.0 }) told s) (sym none) left;
       };
     })
 ticks_sound b o (ticks ∷ more ∷ words) next e keeps = absurd cc
@@ -137,8 +168,12 @@ ticks_sound b o (ticks ∷ more ∷ words) next e keeps = absurd cc
 clustered_sound : (b : Scenario) (o : Body) (words : List (List ℕ)) (next : Draft) → at_clustered (draft_at Clustered b o) words ≡ Ok next → Keeps Clustered b o → IsSound Clustered b o words next
 clustered_sound b o [] next e keeps = absurd cc
 clustered_sound b o (first ∷ operands) next e keeps =
-    let t = then_ok (bytes_eq first (codes "ticks")) (ticks_line (draft_at Clustered b o) operands) NotYetBuilt next e in
-    rw (text_is first (codes "ticks") t.0) (ticks_sound b o operands next t.1 keeps)
+    elim (either_ok (bytes_eq first (codes "ticks")) (ticks_line (draft_at Clustered b o) operands) (at_headed (draft_at Clustered b o) (first ∷ operands)) next e) [
+      | inl t ↦ rw (text_is first (codes "ticks") t.0) (ticks_sound b o operands next t.1 keeps)
+      | inr t ↦
+          let h = headed_sound Clustered b o (first ∷ operands) next t.1 keeps in
+          record { keeps = h.keeps; back = λ told s left. clusters_cons b ((first ∷ operands) ∷ told) s (h.back told s left) }
+    ]
 
 -- ---- init lines
 
@@ -186,31 +221,25 @@ after_init p b o (first ∷ operands) next e =
     let t = then_ok (bytes_eq first (codes "init")) (init_line (draft_at p b o) operands) NotYetBuilt next e in
     rw (text_is first (codes "init") t.0) (after_init_line p b o operands next t.1)
 
-init_keeps : (p : Phase) (b : Scenario) (o : Body) (init : Init) → length b.inits < 64 → length b.bodies ≤ 32 → AreDistinct b.bodies → length o.lines ≤ 1000 → Keeps InInits (record b { inits = b.inits ++ init ∷ [] }) o
-init_keeps p b o init room few distinct lines = record {
-  clusters = tt;
-  bodies = omega arith;
-  distinct = distinct;
+init_keeps : (b : Scenario) (o : Body) (init : Init) → length b.inits < 64 → Keeps InInits b o → Keeps InInits (record b { inits = b.inits ++ init ∷ [] }) o
+init_keeps b o init room keeps = record {
+  alone = tt;
+  clusters = keeps.clusters;
+  cpus = keeps.cpus;
+  bodies = keeps.bodies;
+  distinct = keeps.distinct;
   fresh = tt;
-  lines = lines;
+  lines = keeps.lines;
   inits = omega (arith, length-append b.inits (init ∷ []));
 }
 
-inits_sound : (b : Scenario) (o : Body) (words : List (List ℕ)) (next : Draft) → at_inits (draft_at InInits b o) words ≡ Ok next → Keeps InInits b o → IsSound InInits b o words next
-inits_sound b o words next e keeps =
-    let a = after_init InInits b o words next e in
+-- An init line may come after the ticks, after the limit or a body, and after another.
+inits_sound : (p : Phase) (b : Scenario) (o : Body) (words : List (List ℕ)) (next : Draft) → at_inits (draft_at p b o) words ≡ Ok next → Keeps InInits b o → IsSound InInits b o words next
+inits_sound p b o words next e keeps =
+    let a = after_init p b o words next e in
     subst (λ (x : Draft). IsSound InInits b o words x) a.next_is (record {
-      keeps = init_keeps InInits b o a.init a.room (omega (arith, keeps.bodies)) keeps.distinct keeps.lines;
+      keeps = init_keeps b o a.init a.room keeps;
       back = λ told s left. inits_cons b words a.init told s a.is left;
-    })
-
-timed_init_sound : (b : Scenario) (o : Body) (words : List (List ℕ)) (next : Draft) → at_inits (draft_at Timed b o) words ≡ Ok next → Keeps Timed b o → IsSound Timed b o words next
-timed_init_sound b o words next e keeps =
-    let a = after_init Timed b o words next e in
-    let few : length b.bodies ≤ 32 = omega (arith, keeps.bodies) in
-    subst (λ (x : Draft). IsSound Timed b o words x) a.next_is (record {
-      keeps = init_keeps Timed b o a.init a.room few keeps.distinct keeps.lines;
-      back = λ told s left. bodies_of_inits b (words ∷ told) s keeps.distinct few (inits_cons b words a.init told s a.is left);
     })
 
 -- ---- bodies
@@ -243,10 +272,10 @@ unknown_from : (o : Option ℕ) → is_some o ≡ false → o ≡ None
 unknown_from None e = refl
 unknown_from (Some n) e = absurd cc
 
-body_sound : (b : Scenario) (o : Body) (operands : List (List ℕ)) (next : Draft) → body_line (draft_at Timed b o) operands ≡ Ok next → Keeps Timed b o → IsSound Timed b o (codes "body" ∷ operands) next
+body_sound : (p : Phase) (b : Scenario) (o : Body) (operands : List (List ℕ)) (next : Draft) → body_line (draft_at p b o) operands ≡ Ok next → Keeps Limited b o → IsSound Limited b o (codes "body" ∷ operands) next
 unfolding body_line
-body_sound b o [] next e keeps = absurd cc
-body_sound b o (name ∷ []) next e keeps =
+body_sound p b o [] next e keeps = absurd cc
+body_sound p b o (name ∷ []) next e keeps =
     let open_one : Body = record { name = name; lines = [] } in
     let third : Result Draft ScenarioWhy = cond (nat_lt (length b.bodies) 32) (Ok (draft_at InBody b open_one)) (Err NotYetBuilt) in
     let second : Result Draft ScenarioWhy = cond (is_some (body_of b.bodies name)) (Err NotYetBuilt) third in
@@ -255,18 +284,58 @@ body_sound b o (name ∷ []) next e keeps =
     let r = then_ok (nat_lt (length b.bodies) 32) (Ok (draft_at InBody b open_one)) NotYetBuilt next k.1 in
     let room : length b.bodies < 32 = ltb-true (length b.bodies) 32 r.0 in
     let named : is_body_name name ≡ true = not-false (is_body_name name) n.0 in
-    subst (λ (x : Draft). IsSound Timed b o (codes "body" ∷ name ∷ []) x) (ok_is (draft_at InBody b open_one) next r.1) (record {
-      keeps = record { clusters = tt; bodies = omega arith; distinct = keeps.distinct; fresh = unknown_from (body_of b.bodies name) k.0; lines = omega arith; inits = keeps.inits };
+    subst (λ (x : Draft). IsSound Limited b o (codes "body" ∷ name ∷ []) x) (ok_is (draft_at InBody b open_one) next r.1) (record {
+      keeps = record { alone = tt; clusters = keeps.clusters; cpus = keeps.cpus; bodies = omega arith; distinct = keeps.distinct; fresh = unknown_from (body_of b.bodies name) k.0; lines = omega arith; inits = keeps.inits };
       back = λ told s left. body_cons b name told s named left;
     })
-body_sound b o (name ∷ more ∷ words) next e keeps = absurd cc
+body_sound p b o (name ∷ more ∷ words) next e keeps = absurd cc
+
+-- A body may come after the ticks, and after the limit or another body; so may what follows the bodies.
+limited_sound : (p : Phase) (b : Scenario) (o : Body) (words : List (List ℕ)) (next : Draft) → at_limited (draft_at p b o) words ≡ Ok next → Keeps Limited b o → IsSound Limited b o words next
+limited_sound p b o [] next e keeps = absurd cc
+limited_sound p b o (first ∷ operands) next e keeps =
+    elim (either_ok (bytes_eq first (codes "body")) (body_line (draft_at p b o) operands) (at_inits (draft_at p b o) (first ∷ operands)) next e) [
+      | inl t ↦ rw (text_is first (codes "body") t.0) (body_sound p b o operands next t.1 keeps)
+      | inr t ↦
+          let last : Keeps InInits b o = record { alone = tt; clusters = keeps.clusters; cpus = keeps.cpus; bodies = keeps.bodies; distinct = keeps.distinct; fresh = tt; lines = keeps.lines; inits = keeps.inits } in
+          let i = inits_sound p b o (first ∷ operands) next t.1 last in
+          record { keeps = i.keeps; back = λ told s left. bodies_of_inits b ((first ∷ operands) ∷ told) s keeps.distinct (omega (arith, keeps.bodies)) (i.back told s left) }
+    ]
+
+-- ---- the limit
+
+-- no limit may come before bodies
+limit_of_bodies : (b : Scenario) (told : List (List (List ℕ))) (s : Scenario) → BodiesLeft b told s → LimitLeft b told s
+limit_of_bodies b told s left = record { limits = []; rest = told; told_is = refl; limit = b.limit; sets = refl; after = left }
+
+limit_sound : (b : Scenario) (o : Body) (operands : List (List ℕ)) (next : Draft) → limit_line (draft_at Timed b o) operands ≡ Ok next → Keeps Timed b o → IsSound Timed b o (codes "limit" ∷ operands) next
+unfolding limit_line
+limit_sound b o [] next e keeps = absurd cc
+limit_sound b o (number ∷ []) next e keeps =
+    let after : ℕ → Draft = λ n. draft_at Limited (record b { limit = n }) o in
+    let n = bind_ok (number_operand 1 1000000 number) (λ n. Ok (after n)) next e in
+    subst (λ (x : Draft). IsSound Timed b o (codes "limit" ∷ number ∷ []) x) (ok_is (after n.0) next n.2) (record {
+      keeps = record { alone = tt; clusters = keeps.clusters; cpus = keeps.cpus; bodies = keeps.bodies; distinct = keeps.distinct; fresh = tt; lines = keeps.lines; inits = keeps.inits };
+      back = λ told s left. record {
+        limits = (codes "limit" ∷ number ∷ []) ∷ [];
+        rest = told;
+        told_is = refl;
+        limit = n.0;
+        sets = (number, refl, number_ok 1 1000000 number n.0 n.1);
+        after = left;
+      };
+    })
+limit_sound b o (number ∷ more ∷ words) next e keeps = absurd cc
 
 timed_sound : (b : Scenario) (o : Body) (words : List (List ℕ)) (next : Draft) → at_timed (draft_at Timed b o) words ≡ Ok next → Keeps Timed b o → IsSound Timed b o words next
 timed_sound b o [] next e keeps = absurd cc
 timed_sound b o (first ∷ operands) next e keeps =
-    elim (either_ok (bytes_eq first (codes "body")) (body_line (draft_at Timed b o) operands) (at_inits (draft_at Timed b o) (first ∷ operands)) next e) [
-      | inl t ↦ rw (text_is first (codes "body") t.0) (body_sound b o operands next t.1 keeps)
-      | inr t ↦ timed_init_sound b o (first ∷ operands) next t.1 keeps
+    elim (either_ok (bytes_eq first (codes "limit")) (limit_line (draft_at Timed b o) operands) (at_limited (draft_at Timed b o) (first ∷ operands)) next e) [
+      | inl t ↦ rw (text_is first (codes "limit") t.0) (limit_sound b o operands next t.1 keeps)
+      | inr t ↦
+          let limited : Keeps Limited b o = record { alone = tt; clusters = keeps.clusters; cpus = keeps.cpus; bodies = keeps.bodies; distinct = keeps.distinct; fresh = tt; lines = keeps.lines; inits = keeps.inits } in
+          let l = limited_sound Timed b o (first ∷ operands) next t.1 limited in
+          record { keeps = l.keeps; back = λ told s left. limit_of_bodies b ((first ∷ operands) ∷ told) s (l.back told s left) }
     ]
 
 -- ---- lines of a body
@@ -280,7 +349,9 @@ end_is (first ∷ second ∷ words) e = absurd cc
 end_sound : (b : Scenario) (o : Body) (words : List (List ℕ)) → is_end words ≡ true → Keeps InBody b o → IsSound InBody b o words (with_body (draft_at InBody b o))
 end_sound b o words e keeps = record {
   keeps = record {
-    clusters = tt;
+    alone = tt;
+    clusters = keeps.clusters;
+    cpus = keeps.cpus;
     bodies = omega (arith, length-append b.bodies (o ∷ []), keeps.bodies);
     distinct = distinct_more b.bodies o keeps.distinct keeps.fresh;
     fresh = tt;
@@ -302,11 +373,11 @@ inner_sound : (b : Scenario) (o : Body) (words : List (List ℕ)) (next : Draft)
 unfolding inner_line
 inner_sound b o words next e keeps =
     let d = draft_at InBody b o in
-    let op = bind_ok (op_line words) (λ op. cond (nat_lt (length o.lines) 1000) (Ok (with_op d op)) (Err NotYetBuilt)) next e in
+    let op = bind_ok (op_line o.lines words) (λ op. cond (nat_lt (length o.lines) 1000) (Ok (with_op d op)) (Err NotYetBuilt)) next e in
     let r = then_ok (nat_lt (length o.lines) 1000) (Ok (with_op d op.0)) NotYetBuilt next op.2 in
     let room : length o.lines < 1000 = ltb-true (length o.lines) 1000 r.0 in
     subst (λ (x : Draft). IsSound InBody b o words x) (ok_is (with_op d op.0) next r.1) (record {
-      keeps = record { clusters = tt; bodies = keeps.bodies; distinct = keeps.distinct; fresh = keeps.fresh; lines = omega (arith, length-append o.lines (op.0 ∷ [])); inits = keeps.inits };
+      keeps = record { alone = tt; clusters = keeps.clusters; cpus = keeps.cpus; bodies = keeps.bodies; distinct = keeps.distinct; fresh = keeps.fresh; lines = omega (arith, length-append o.lines (op.0 ∷ [])); inits = keeps.inits };
       back = λ told s left.
           let join = append_assoc o.lines (op.0 ∷ []) left.more in
           record {
@@ -314,7 +385,7 @@ inner_sound b o words next e keeps =
             rest = left.rest;
             told_is = ap (λ (x : List (List (List ℕ))). words ∷ x) left.told_is;
             more = op.0 ∷ left.more;
-            lines = (op_ok words op.0 op.1, left.lines);
+            lines = (op_ok o.lines words op.0 op.1, left.lines);
             few = subst (λ (x : List Op). length x ≤ 1000) join left.few;
             after = subst (λ (x : List Op). BodiesLeft (record b { bodies = b.bodies ++ (record o { lines = x }) ∷ [] }) left.rest s) join left.after;
           };
@@ -332,11 +403,14 @@ body_lines_sound b o words next e keeps =
 -- each step that the machine takes is sound
 pub step_sound : (p : Phase) (b : Scenario) (o : Body) (words : List (List ℕ)) (next : Draft) → after_told p (draft_at p b o) words ≡ Ok next → Keeps p b o → IsSound p b o words next
 step_sound Start b o words next e keeps = start_sound b o words next e keeps
-step_sound Headed b o words next e keeps = headed_sound b o words next e keeps
+step_sound Headed b o words next e keeps =
+    let clustered : Keeps Clustered b o = record { alone = tt; clusters = keeps.clusters; cpus = keeps.cpus; bodies = keeps.bodies; distinct = keeps.distinct; fresh = tt; lines = keeps.lines; inits = keeps.inits } in
+    headed_sound Headed b o words next e clustered
 step_sound Clustered b o words next e keeps = clustered_sound b o words next e keeps
 step_sound Timed b o words next e keeps = timed_sound b o words next e keeps
+step_sound Limited b o words next e keeps = limited_sound Limited b o words next e keeps
 step_sound InBody b o words next e keeps = body_lines_sound b o words next e keeps
-step_sound InInits b o words next e keeps = inits_sound b o words next e keeps
+step_sound InInits b o words next e keeps = inits_sound InInits b o words next e keeps
 
 none_left : (b : Scenario) → length b.inits ≤ 64 → InitsLeft b [] b
 none_left b few = record {
@@ -352,6 +426,9 @@ end_sound_at Start b o s e keeps = absurd cc
 end_sound_at Headed b o s e keeps = absurd cc
 end_sound_at Clustered b o s e keeps = absurd cc
 end_sound_at Timed b o s e keeps =
+    let is : b ≡ s = cc in
+    subst (λ (x : Scenario). LimitLeft b [] x) is (limit_of_bodies b [] b (bodies_of_inits b [] b keeps.distinct (omega (arith, keeps.bodies)) (none_left b keeps.inits)))
+end_sound_at Limited b o s e keeps =
     let is : b ≡ s = cc in
     subst (λ (x : Scenario). BodiesLeft b [] x) is (bodies_of_inits b [] b keeps.distinct (omega (arith, keeps.bodies)) (none_left b keeps.inits))
 end_sound_at InBody b o s e keeps = absurd cc

@@ -2,18 +2,20 @@
 use Rattle.std.proofs.Common.{◌≡◌, ℕ, ◌≤◌, ◌<◌, Bool, true, false, cond, ◌⊎◌, inl, inr, List, [], ◌∷◌, length, Option, Some, None, Result, Ok, Err, refl, ap, subst, arith, codes, ◌&&◌}
 use Rattle.std.specs.Prelude.{nat_le, nat_lt}
 use Rattle.std.specs.Str.{bytes_eq}
-use Rattle.std.proofs.lemmas.Bool.{and_parts, leb-true, le-leb, ltb-true, lt-ltb}
+use Rattle.std.proofs.lemmas.Bool.{and_parts, leb-true, le-leb, ltb-true, lt-ltb, false_from_ne_true}
 use Rattle.std.proofs.lemmas.Slice.Eq.{bytes_eq-Decides}
 use Rattle.rk_model.specs.declared.scenario.Op.{Op}
-use Rattle.rk_model.specs.declared.scenario.Op.TheVariants.{Work, TaskWakeAfter}
+use Rattle.rk_model.specs.declared.scenario.Op.TheVariants.{Work, Goto, TaskSuspend, TaskResume, TaskWakeAfter}
+use Rattle.rk_model.specs.declared.scenario.Target.{Target}
+use Rattle.rk_model.specs.declared.scenario.Target.TheVariants.{Own, Given}
 use Rattle.rk_model.specs.declared.scenario.Body.{Body}
 use Rattle.rk_model.specs.declared.scenario.Init.{Init}
 use Rattle.rk_model.specs.declared.scenario.Scenario.{Scenario}
 use Rattle.rk_model.specs.declared.scenario.ScenarioWhy.{ScenarioWhy}
 use Rattle.rk_model.specs.declared.scenario.ScenarioWhy.TheVariants.{NotYetBuilt}
-use Rattle.rk_model.specs.Words.{number_of, name_of}
-use Rattle.rk_model.specs.Scenarios.{IsNumber, IsOp, IsInit, body_of}
-use Rattle.rk_model.specs.Reading.{◌>>=◌, within, below, known, number_operand, cluster_operand, name_operand, body_operand, work_line, wake_after_line, op_line, init_operands}
+use Rattle.rk_model.specs.Words.{number_of, decimal_of, name_of}
+use Rattle.rk_model.specs.Scenarios.{IsNumber, IsId, IsOp, IsInit, body_of, is_target}
+use Rattle.rk_model.specs.Reading.{◌>>=◌, within, below, known, led, number_operand, cluster_operand, id_operand, goto_operand, name_operand, body_operand, work_line, goto_line, suspend_line, resume_line, wake_after_line, op_line, init_operands}
 
 -- ---- steps that are taken
 
@@ -84,6 +86,44 @@ cluster_is : (count : ℕ) (word : List ℕ) (n : ℕ) → number_of word ≡ So
 unfolding cluster_operand
 cluster_is count word n e lt = let test = lt-ltb n count lt in rw (e, test) refl
 
+self_no_number : (bits : ℕ) → number_of (codes "self") ≡ Some bits → ⊥
+unfolding number_of decimal_of
+self_no_number bits e = cc
+
+-- a word that spells a number isn't `self`
+number_not_self : (word : List ℕ) (bits : ℕ) → number_of word ≡ Some bits → bytes_eq word (codes "self") ≡ false
+number_not_self word bits e = false_from_ne_true (bytes_eq word (codes "self")) (λ same. self_no_number bits (subst (λ (w : List ℕ). number_of w ≡ Some bits) (text_is word (codes "self") same) e))
+
+id_ok : (word : List ℕ) (id : Target) → id_operand word ≡ Ok id → IsId word id
+unfolding id_operand
+id_ok word id e =
+    elim (either_ok (bytes_eq word (codes "self")) (done Own) (number_operand 0 4294967295 word >>= (λ bits. Ok (Given bits))) id e) [
+      | inl h ↦ subst (λ (i : Target). IsId word i) (ok_is Own id h.1) (text_is word (codes "self") h.0)
+      | inr h ↦
+          let b = bind_ok (number_operand 0 4294967295 word) (λ bits. Ok (Given bits)) id h.1 in
+          subst (λ (i : Target). IsId word i) (ok_is (Given b.0) id b.2) (number_ok 0 4294967295 word b.0 b.1)
+    ]
+
+id_is : (word : List ℕ) (id : Target) → IsId word id → id_operand word ≡ Ok id
+unfolding id_operand
+id_is word Own h = rw h refl
+id_is word (Given bits) h = rw (number_not_self word bits h.value, number_is 0 4294967295 word bits h) refl
+
+led_ok : (earlier : List Op) (o : Option ℕ) (n : ℕ) → led earlier o ≡ Ok n → (o ≡ Some n) × (is_target earlier n ≡ true)
+led_ok earlier None n e = absurd cc
+led_ok earlier (Some m) n e =
+    let t = then_ok (is_target earlier m) (done m) NotYetBuilt n e in
+    let same : m ≡ n = ok_is m n t.1 in
+    (ap (λ (k : ℕ). Some k) same, subst (λ (k : ℕ). is_target earlier k ≡ true) same t.0)
+
+goto_ok : (earlier : List Op) (word : List ℕ) (n : ℕ) → goto_operand earlier word ≡ Ok n → (number_of word ≡ Some n) × (is_target earlier n ≡ true)
+unfolding goto_operand
+goto_ok earlier word n e = led_ok earlier (number_of word) n e
+
+goto_is : (earlier : List Op) (word : List ℕ) (n : ℕ) → number_of word ≡ Some n → is_target earlier n ≡ true → goto_operand earlier word ≡ Ok n
+unfolding goto_operand
+goto_is earlier word n e target = rw (e, target) refl
+
 known_ok : (o : Option ℕ) (n : ℕ) → known o ≡ Ok n → o ≡ Some n
 known_ok None n e = absurd cc
 known_ok (Some m) n e = ap (λ (k : ℕ). Some k) (ok_is m n e)
@@ -106,39 +146,80 @@ body_is bodies word n e = rw e refl
 
 -- ---- lines of a body
 
-work_ok : (operands : List (List ℕ)) (op : Op) → work_line operands ≡ Ok op → IsOp (codes "work" ∷ operands) op
+work_ok : (earlier : List Op) (operands : List (List ℕ)) (op : Op) → work_line operands ≡ Ok op → IsOp earlier (codes "work" ∷ operands) op
 unfolding work_line
-work_ok [] op e = absurd cc
-work_ok (ticks ∷ []) op e =
-    let b = bind_ok (number_operand 1 1000000 ticks) (λ n. Ok (Work n)) op e in
-    subst (λ (o : Op). IsOp (codes "work" ∷ ticks ∷ []) o) (ok_is (Work b.0) op b.2) (ticks, refl, number_ok 1 1000000 ticks b.0 b.1)
-work_ok (ticks ∷ more ∷ words) op e = absurd cc
+work_ok earlier [] op e = absurd cc
+work_ok earlier (word ∷ []) op e =
+    let b = bind_ok (number_operand 1 1000000 word) (λ x. Ok (Work x)) op e in
+    subst (λ (o : Op). IsOp earlier (codes "work" ∷ word ∷ []) o) (ok_is (Work b.0) op b.2) (word, refl, number_ok 1 1000000 word b.0 b.1)
+work_ok earlier (word ∷ more ∷ words) op e = absurd cc
 
-wake_after_ok : (operands : List (List ℕ)) (op : Op) → wake_after_line operands ≡ Ok op → IsOp (codes "task.wake_after" ∷ operands) op
+goto_line_ok : (earlier : List Op) (operands : List (List ℕ)) (op : Op) → goto_line earlier operands ≡ Ok op → IsOp earlier (codes "goto" ∷ operands) op
+unfolding goto_line
+goto_line_ok earlier [] op e = absurd cc
+goto_line_ok earlier (word ∷ []) op e =
+    let b = bind_ok (goto_operand earlier word) (λ x. Ok (Goto x)) op e in
+    let target = goto_ok earlier word b.0 b.1 in
+    subst (λ (o : Op). IsOp earlier (codes "goto" ∷ word ∷ []) o) (ok_is (Goto b.0) op b.2) (word, refl, target.0, target.1)
+goto_line_ok earlier (word ∷ more ∷ words) op e = absurd cc
+
+suspend_ok : (earlier : List Op) (operands : List (List ℕ)) (op : Op) → suspend_line operands ≡ Ok op → IsOp earlier (codes "task.suspend" ∷ operands) op
+unfolding suspend_line
+suspend_ok earlier [] op e = absurd cc
+suspend_ok earlier (word ∷ []) op e =
+    let b = bind_ok (id_operand word) (λ x. Ok (TaskSuspend x)) op e in
+    subst (λ (o : Op). IsOp earlier (codes "task.suspend" ∷ word ∷ []) o) (ok_is (TaskSuspend b.0) op b.2) (word, refl, id_ok word b.0 b.1)
+suspend_ok earlier (word ∷ more ∷ words) op e = absurd cc
+
+resume_ok : (earlier : List Op) (operands : List (List ℕ)) (op : Op) → resume_line operands ≡ Ok op → IsOp earlier (codes "task.resume" ∷ operands) op
+unfolding resume_line
+resume_ok earlier [] op e = absurd cc
+resume_ok earlier (word ∷ []) op e =
+    let b = bind_ok (id_operand word) (λ x. Ok (TaskResume x)) op e in
+    subst (λ (o : Op). IsOp earlier (codes "task.resume" ∷ word ∷ []) o) (ok_is (TaskResume b.0) op b.2) (word, refl, id_ok word b.0 b.1)
+resume_ok earlier (word ∷ more ∷ words) op e = absurd cc
+
+wake_after_ok : (earlier : List Op) (operands : List (List ℕ)) (op : Op) → wake_after_line operands ≡ Ok op → IsOp earlier (codes "task.wake_after" ∷ operands) op
 unfolding wake_after_line
-wake_after_ok [] op e = absurd cc
-wake_after_ok (ticks ∷ []) op e =
-    let b = bind_ok (number_operand 0 4294967295 ticks) (λ n. Ok (TaskWakeAfter n)) op e in
-    subst (λ (o : Op). IsOp (codes "task.wake_after" ∷ ticks ∷ []) o) (ok_is (TaskWakeAfter b.0) op b.2) (ticks, refl, number_ok 0 4294967295 ticks b.0 b.1)
-wake_after_ok (ticks ∷ more ∷ words) op e = absurd cc
+wake_after_ok earlier [] op e = absurd cc
+wake_after_ok earlier (word ∷ []) op e =
+    let b = bind_ok (number_operand 0 4294967295 word) (λ x. Ok (TaskWakeAfter x)) op e in
+    subst (λ (o : Op). IsOp earlier (codes "task.wake_after" ∷ word ∷ []) o) (ok_is (TaskWakeAfter b.0) op b.2) (word, refl, number_ok 0 4294967295 word b.0 b.1)
+wake_after_ok earlier (word ∷ more ∷ words) op e = absurd cc
 
 -- what the machine takes as a line of a body is one
-pub op_ok : (words : List (List ℕ)) (op : Op) → op_line words ≡ Ok op → IsOp words op
+pub op_ok : (earlier : List Op) (words : List (List ℕ)) (op : Op) → op_line earlier words ≡ Ok op → IsOp earlier words op
 unfolding op_line
-op_ok [] op e = absurd cc
-op_ok (first ∷ operands) op e =
-    elim (either_ok (bytes_eq first (codes "work")) (work_line operands) (cond (bytes_eq first (codes "task.wake_after")) (wake_after_line operands) (Err NotYetBuilt)) op e) [
-      | inl h ↦ rw (text_is first (codes "work") h.0) (work_ok operands op h.1)
-      | inr h ↦
-          let t = then_ok (bytes_eq first (codes "task.wake_after")) (wake_after_line operands) NotYetBuilt op h.1 in
-          rw (text_is first (codes "task.wake_after") t.0) (wake_after_ok operands op t.1)
+op_ok earlier [] op e = absurd cc
+op_ok earlier (first ∷ operands) op e =
+    let last : Result Op ScenarioWhy = cond (bytes_eq first (codes "task.wake_after")) (wake_after_line operands) (Err NotYetBuilt) in
+    let fourth : Result Op ScenarioWhy = cond (bytes_eq first (codes "task.resume")) (resume_line operands) last in
+    let third : Result Op ScenarioWhy = cond (bytes_eq first (codes "task.suspend")) (suspend_line operands) fourth in
+    let second : Result Op ScenarioWhy = cond (bytes_eq first (codes "goto")) (goto_line earlier operands) third in
+    elim (either_ok (bytes_eq first (codes "work")) (work_line operands) second op e) [
+      | inl h ↦ rw (text_is first (codes "work") h.0) (work_ok earlier operands op h.1)
+      | inr h ↦ elim (either_ok (bytes_eq first (codes "goto")) (goto_line earlier operands) third op h.1) [
+        | inl h ↦ rw (text_is first (codes "goto") h.0) (goto_line_ok earlier operands op h.1)
+        | inr h ↦ elim (either_ok (bytes_eq first (codes "task.suspend")) (suspend_line operands) fourth op h.1) [
+          | inl h ↦ rw (text_is first (codes "task.suspend") h.0) (suspend_ok earlier operands op h.1)
+          | inr h ↦ elim (either_ok (bytes_eq first (codes "task.resume")) (resume_line operands) last op h.1) [
+            | inl h ↦ rw (text_is first (codes "task.resume") h.0) (resume_ok earlier operands op h.1)
+            | inr h ↦
+                let t = then_ok (bytes_eq first (codes "task.wake_after")) (wake_after_line operands) NotYetBuilt op h.1 in
+                rw (text_is first (codes "task.wake_after") t.0) (wake_after_ok earlier operands op t.1)
+          ]
+        ]
+      ]
     ]
 
 -- a line of a body is taken by the machine
-pub op_is : (words : List (List ℕ)) (op : Op) → IsOp words op → op_line words ≡ Ok op
-unfolding op_line work_line wake_after_line
-op_is words (Work n) h = rw (h.1, number_is 1 1000000 h.0 n h.2) refl
-op_is words (TaskWakeAfter n) h = rw (h.1, number_is 0 4294967295 h.0 n h.2) refl
+pub op_is : (earlier : List Op) (words : List (List ℕ)) (op : Op) → IsOp earlier words op → op_line earlier words ≡ Ok op
+unfolding op_line work_line goto_line suspend_line resume_line wake_after_line
+op_is earlier words (Work n) h = rw (h.1, number_is 1 1000000 h.0 n h.2) refl
+op_is earlier words (Goto target) h = rw (h.1, goto_is earlier h.0 target h.2 h.3) refl
+op_is earlier words (TaskSuspend id) h = rw (h.1, id_is h.0 id h.2) refl
+op_is earlier words (TaskResume id) h = rw (h.1, id_is h.0 id h.2) refl
+op_is earlier words (TaskWakeAfter n) h = rw (h.1, number_is 0 4294967295 h.0 n h.2) refl
 
 -- ---- init lines
 

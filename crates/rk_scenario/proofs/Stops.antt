@@ -1,13 +1,14 @@
 -- A fault stands at the first line at which no text goes on.
 use Rattle.std.proofs.Common.{◌≡◌, ℕ, suc, ◌+◌, ◌-◌, ◌≤◌, ◌<◌, Bool, true, false, cond, ◌⊎◌, inl, inr, List, [], ◌∷◌, ◌++◌, length, take, Some, Result, Ok, Err, codes, refl, sym, ap, subst, ◌∙◌, arith}
-use Rattle.std.specs.Prelude.{nat_lt}
+use Rattle.std.specs.Prelude.{nat_lt, nat_le}
 use Rattle.std.proofs.lemmas.Bool.{ltb-true, ltb-false}
 use Rattle.rk_model.specs.declared.scenario.Body.{Body}
 use Rattle.rk_model.specs.declared.scenario.Scenario.{Scenario}
 use Rattle.rk_model.specs.declared.scenario.ScenarioWhy.{ScenarioWhy}
 use Rattle.rk_model.specs.declared.scenario.ScenarioWhy.TheVariants.{TooLarge}
 use Rattle.rk_model.specs.Words.{lines_of, words_of, number_of, decimal_of}
-use Rattle.rk_model.specs.Reading.{Phase, Start, Headed, Clustered, Timed, InBody, InInits, Draft, start, number_operand, is_header, is_end, cluster_line, ticks_line, after_words, after_line, Fault, Verdict, Reads, Faults, at_end, goes_on, verdict_from, fault_in}
+use Rattle.rk_model.specs.Reading.{Phase, Start, Headed, Clustered, Timed, Limited, InBody, InInits, Draft, start, number_operand, is_header, is_end, cluster_line, ticks_line, after_words, after_line, Fault, Verdict, Reads, Faults, at_end, goes_on, verdict_from, fault_in}
+use Rattle.rk_model.specs.Scenarios.{cpus_in}
 use Rattle.rk_scenario.specs.Laws.{AreLinesOf, IsFirstStop, FaultsAtFirstStop}
 use Rattle.rk_scenario.proofs.Left.{draft_at}
 use Rattle.rk_scenario.proofs.Sound.{Keeps, step_sound}
@@ -27,8 +28,9 @@ headed_goes_on : (b : Scenario) (o : Body) → b.clusters ≡ [] → GoesOn (dra
 unfolding after_line after_words cluster_line number_operand number_of decimal_of
 headed_goes_on b o alone =
     let rest = clustered_goes_on (record b { clusters = b.clusters ++ 1 ∷ [] }) o in
-    let room : nat_lt (length b.clusters) 1 ≡ true = rw alone refl in
-    (codes "cluster 1" ∷ rest.0, rest.1, λ n. rw room (rest.2 (n + 1)))
+    let few : nat_lt (length b.clusters) 4 ≡ true = rw alone refl in
+    let few_cpus : nat_le (cpus_in b.clusters + 1) 8 ≡ true = rw alone refl in
+    (codes "cluster 1" ∷ rest.0, rest.1, λ n. rw (few, few_cpus) (rest.2 (n + 1)))
 
 start_goes_on : (b : Scenario) (o : Body) → b.clusters ≡ [] → GoesOn (draft_at Start b o)
 unfolding after_line after_words is_header
@@ -41,10 +43,11 @@ unfolding after_line after_words is_end
 body_goes_on b o = (codes "end" ∷ [], record b { bodies = b.bodies ++ o ∷ [] }, λ n. refl)
 
 draft_goes_on : (p : Phase) (b : Scenario) (o : Body) → Keeps p b o → GoesOn (draft_at p b o)
-draft_goes_on Start b o keeps = start_goes_on b o keeps.clusters
-draft_goes_on Headed b o keeps = headed_goes_on b o keeps.clusters
+draft_goes_on Start b o keeps = start_goes_on b o keeps.alone
+draft_goes_on Headed b o keeps = headed_goes_on b o keeps.alone
 draft_goes_on Clustered b o keeps = clustered_goes_on b o
 draft_goes_on Timed b o keeps = ([], b, λ n. refl)
+draft_goes_on Limited b o keeps = ([], b, λ n. refl)
 draft_goes_on InBody b o keeps = body_goes_on b o
 draft_goes_on InInits b o keeps = ([], b, λ n. refl)
 
@@ -63,6 +66,7 @@ end_line Start s n fault e = cc
 end_line Headed s n fault e = cc
 end_line Clustered s n fault e = cc
 end_line Timed s n fault e = absurd cc
+end_line Limited s n fault e = absurd cc
 end_line InBody s n fault e = cc
 end_line InInits s n fault e = absurd cc
 

@@ -1,5 +1,5 @@
 -- The verdict on a text is the scenario that it tells, and bytes that tell none have a fault.
-use Rattle.std.proofs.Common.{◌≡◌, ℕ, ◌+◌, Bool, true, false, cond, not, ◌⊎◌, inl, inr, List, [], ◌∷◌, ◌++◌, length, map, Option, Some, None, Result, Ok, Err, codes, refl, sym, ap, subst, ◌∙◌, arith}
+use Rattle.std.proofs.Common.{◌≡◌, ℕ, ◌+◌, Bool, true, false, cond, not, ◌⊎◌, inl, inr, List, [], ◌∷◌, ◌++◌, length, map, Option, Some, None, Result, Ok, Err, codes, refl, sym, ap, subst, ◌∙◌, append_assoc, arith, ◌≤◌, ◌<◌}
 use Rattle.std.specs.Prelude.{nat_lt, filter, IfOk, IfErr}
 use Rattle.std.specs.List.{AllByRecursion}
 use Rattle.std.proofs.lemmas.Bool.{cases_Bool, le-ltb, ltb-false}
@@ -9,13 +9,13 @@ use Rattle.rk_model.specs.declared.scenario.Scenario.{Scenario}
 use Rattle.rk_model.specs.declared.scenario.ScenarioWhy.{ScenarioWhy}
 use Rattle.rk_model.specs.declared.scenario.ScenarioWhy.TheVariants.{TooLarge, NotYetBuilt}
 use Rattle.rk_model.specs.Words.{lines_of, words_of, is_plain, is_skipped}
-use Rattle.rk_model.specs.Scenarios.{AreClusters, AreBodies, AreInits, IsCluster, IsTicks, Tells, ScenarioText, IsScenario}
-use Rattle.rk_model.specs.Reading.{Phase, Start, Headed, Clustered, Timed, InBody, InInits, Draft, start, after_told, after_words, after_line, Fault, Verdict, Reads, Faults, at_end, goes_on, verdict_from, verdict, fault_in}
+use Rattle.rk_model.specs.Scenarios.{AreClusters, AreBodies, AreInits, IsCluster, cpus_in, IsTicks, IsLimit, Tells, ScenarioText, IsScenario}
+use Rattle.rk_model.specs.Reading.{Phase, Start, Headed, Clustered, Timed, Limited, InBody, InInits, Draft, start, after_told, after_words, after_line, Fault, Verdict, Reads, Faults, at_end, goes_on, verdict_from, verdict, fault_in}
 use Rattle.rk_scenario.specs.declared.errors.ScenarioError.{ScenarioError}
 use Rattle.rk_scenario.specs.declared.errors.ScenarioError.TheVariants.{Refused, Memory}
 use Rattle.rk_scenario.specs.Outcomes.{Answers, IsRefusal, Gives}
 use Rattle.rk_scenario.specs.Laws.{ReadsTexts, ReadsEachText, OneScenario, FaultlessAreTexts, AreLinesOf}
-use Rattle.rk_scenario.proofs.Left.{Completes, ends}
+use Rattle.rk_scenario.proofs.Left.{SetsLimit, Completes, ends}
 use Rattle.rk_scenario.proofs.Sound.{Keeps, step_sound, end_sound_at}
 use Rattle.rk_scenario.proofs.Complete.{step_taken, end_taken}
 
@@ -61,6 +61,7 @@ at_end_reads Start b s n e = absurd cc
 at_end_reads Headed b s n e = absurd cc
 at_end_reads Clustered b s n e = absurd cc
 at_end_reads Timed b s n e = cc
+at_end_reads Limited b s n e = cc
 at_end_reads InBody b s n e = absurd cc
 at_end_reads InInits b s n e = cc
 
@@ -69,6 +70,7 @@ ends_reads Start b s n e = absurd cc
 ends_reads Headed b s n e = absurd cc
 ends_reads Clustered b s n e = absurd cc
 ends_reads Timed b s n e = cc
+ends_reads Limited b s n e = cc
 ends_reads InBody b s n e = absurd cc
 ends_reads InInits b s n e = cc
 
@@ -140,29 +142,54 @@ read_lines_of (line ∷ lines) d n s plain e =
 -- ---- what is told
 
 pub start_keeps : Keeps start.phase start.scenario start.body
-start_keeps = record { clusters = refl; bodies = omega arith; distinct = tt; fresh = tt; lines = omega arith; inits = omega arith }
+start_keeps = record { alone = refl; clusters = omega arith; cpus = omega arith; bodies = omega arith; distinct = tt; fresh = tt; lines = omega arith; inits = omega arith }
+
+limit_of_sets : (limits : List (List (List ℕ))) (limit : ℕ) → SetsLimit 200000 limits limit → IsLimit limits limit
+limit_of_sets [] limit sets = sets
+limit_of_sets (words ∷ []) limit sets = sets
+limit_of_sets (words ∷ more ∷ told) limit sets = absurd sets
+
+sets_of_limit : (limits : List (List (List ℕ))) (limit : ℕ) → IsLimit limits limit → SetsLimit 200000 limits limit
+sets_of_limit [] limit is = is
+sets_of_limit (words ∷ []) limit is = is
+sets_of_limit (words ∷ more ∷ told) limit is = absurd is
+
+-- the parts of what is told, each behind the one before
+parts_joined : (clusters : List (List (List ℕ))) (ticks : List (List ℕ)) (limits bodies inits : List (List (List ℕ)))
+    → clusters ++ ticks ∷ limits ++ bodies ++ inits ≡ clusters ++ ticks ∷ (limits ++ (bodies ++ inits))
+parts_joined clusters ticks limits bodies inits = append_assoc (clusters ++ ticks ∷ limits) bodies inits ∙ append_assoc clusters (ticks ∷ limits) (bodies ++ inits)
 
 -- what completes the draft before the first line tells the scenario
 tells_of : (told : List (List (List ℕ))) (s : Scenario) → Completes start.phase start.scenario start.body told s → Tells told s
 tells_of told s h =
-    let cluster = h.after in
-    let ticks = cluster.after in
-    let bodies = ticks.after in
+    let first = h.after in
+    let clusters = first.after in
+    let limit = clusters.after in
+    let bodies = limit.after in
     let inits = bodies.after in
-    let clusters-is : s.clusters ≡ 1 ∷ [] = ap (λ (x : Scenario). x.clusters) inits.whole in
-    let horizon-is : s.horizon ≡ ticks.horizon = ap (λ (x : Scenario). x.horizon) inits.whole in
+    let header : List (List ℕ) = codes "rtems" ∷ codes "1" ∷ [] in
+    let counts : List ℕ = first.cpus ∷ clusters.more in
+    let lines : List (List (List ℕ)) = first.cluster ∷ clusters.clusters in
+    let clusters-is : s.clusters ≡ counts = ap (λ (x : Scenario). x.clusters) inits.whole in
+    let horizon-is : s.horizon ≡ clusters.horizon = ap (λ (x : Scenario). x.horizon) inits.whole in
+    let limit-is : s.limit ≡ limit.limit = ap (λ (x : Scenario). x.limit) inits.whole in
     let bodies-is : s.bodies ≡ bodies.more = ap (λ (x : Scenario). x.bodies) inits.whole in
     let inits-is : s.inits ≡ inits.more = ap (λ (x : Scenario). x.inits) inits.whole in
+    let nested : told ≡ header ∷ lines ++ clusters.ticks ∷ (limit.limits ++ (bodies.bodies ++ bodies.inits)) = cc (h.told_is, first.told_is, clusters.told_is, limit.told_is, bodies.told_is) in
+    let some : 0 < length counts = omega arith in
     record {
-      clusters = cluster.cluster ∷ [];
-      ticks = ticks.ticks;
+      clusters = lines;
+      ticks = clusters.ticks;
+      limits = limit.limits;
       bodies = bodies.bodies;
       inits = bodies.inits;
-      told_is = cc (h.told_is, cluster.told_is, ticks.told_is, bodies.told_is);
-      clusters_are = subst (λ (ms : List ℕ). AreClusters (cluster.cluster ∷ []) ms) (sym clusters-is) (cluster.is, tt);
-      one_cpu = clusters-is;
-      ticks_are = subst (λ (n : ℕ). IsTicks ticks.ticks n) (sym horizon-is) ticks.is;
-      limit = ap (λ (x : Scenario). x.limit) inits.whole;
+      told_is = nested ∙ sym (parts_joined (header ∷ lines) clusters.ticks limit.limits bodies.bodies bodies.inits);
+      clusters_are = subst (λ (ms : List ℕ). AreClusters lines ms) (sym clusters-is) (first.is, clusters.clusters_are);
+      some_cluster = subst (λ (ms : List ℕ). 0 < length ms) (sym clusters-is) some;
+      few_clusters = subst (λ (ms : List ℕ). length ms ≤ 4) (sym clusters-is) clusters.few;
+      few_cpus = subst (λ (ms : List ℕ). cpus_in ms ≤ 8) (sym clusters-is) clusters.few_cpus;
+      ticks_are = subst (λ (n : ℕ). IsTicks clusters.ticks n) (sym horizon-is) clusters.ticks_are;
+      limit_is = subst (λ (n : ℕ). IsLimit limit.limits n) (sym limit-is) (limit_of_sets limit.limits limit.limit limit.sets);
       bodies_are = subst (λ (x : List Body). AreBodies bodies.bodies x) (sym bodies-is) bodies.bodies_are;
       few_bodies = bodies.few;
       distinct = bodies.distinct;
@@ -170,45 +197,70 @@ tells_of told s h =
       few_inits = inits.few;
     }
 
-one_cluster : (clusters : List (List (List ℕ))) → AreClusters clusters (1 ∷ []) → (cluster : List (List ℕ)) × (clusters ≡ cluster ∷ []) × IsCluster cluster 1
-one_cluster [] are = absurd are
-one_cluster (cluster ∷ []) are = (cluster, refl, are.0)
-one_cluster (cluster ∷ more ∷ clusters) are = absurd are.1
+-- the first of some clusters, and the others
+record AreParted (clusters : List (List (List ℕ))) (counts : List ℕ) : Type 0 where
+  cluster : List (List ℕ)
+  lines : List (List (List ℕ))
+  cpus : ℕ
+  more : List ℕ
+  clusters_is : clusters ≡ cluster ∷ lines
+  counts_is : counts ≡ cpus ∷ more
+  is : IsCluster cluster cpus
+  are : AreClusters lines more
+
+parted : (clusters : List (List (List ℕ))) (counts : List ℕ) → AreClusters clusters counts → 0 < length counts → AreParted clusters counts
+parted clusters [] are some = absurd (let none : 0 < 0 = some in omega arith)
+parted [] (cpus ∷ more) are some = absurd are
+parted (cluster ∷ lines) (cpus ∷ more) are some = record { cluster = cluster; lines = lines; cpus = cpus; more = more; clusters_is = refl; counts_is = refl; is = are.0; are = are.1 }
 
 -- what tells the scenario completes the draft before the first line
 completes_of : (told : List (List (List ℕ))) (s : Scenario) → Tells told s → Completes start.phase start.scenario start.body told s
 completes_of told s t =
-    let c = one_cluster t.clusters (subst (λ (ms : List ℕ). AreClusters t.clusters ms) t.one_cpu t.clusters_are) in
+    let c = parted t.clusters s.clusters t.clusters_are t.some_cluster in
     let header : List (List ℕ) = codes "rtems" ∷ codes "1" ∷ [] in
-    let alone : told ≡ header ∷ c.0 ∷ t.ticks ∷ (t.bodies ++ t.inits) = t.told_is ∙ ap (λ (x : List (List (List ℕ))). header ∷ x ++ t.ticks ∷ t.bodies ++ t.inits) c.1 in
+    let rest : List (List (List ℕ)) = t.limits ++ (t.bodies ++ t.inits) in
+    let nested : told ≡ header ∷ c.cluster ∷ (c.lines ++ t.ticks ∷ rest) =
+    t.told_is ∙ parts_joined (header ∷ t.clusters) t.ticks t.limits t.bodies t.inits ∙ ap (λ (x : List (List (List ℕ))). header ∷ x ++ t.ticks ∷ rest) c.clusters_is in
     record {
-      rest = c.0 ∷ t.ticks ∷ (t.bodies ++ t.inits);
-      told_is = alone;
+      rest = c.cluster ∷ (c.lines ++ t.ticks ∷ rest);
+      told_is = nested;
       after = record {
-        cluster = c.0;
-        rest = t.ticks ∷ (t.bodies ++ t.inits);
+        cluster = c.cluster;
+        rest = c.lines ++ t.ticks ∷ rest;
         told_is = refl;
-        is = c.2;
-        alone = refl;
+        cpus = c.cpus;
+        is = c.is;
         after = record {
+          clusters = c.lines;
           ticks = t.ticks;
-          rest = t.bodies ++ t.inits;
+          rest = rest;
           told_is = refl;
+          more = c.more;
+          clusters_are = c.are;
+          few = subst (λ (ms : List ℕ). length ms ≤ 4) c.counts_is t.few_clusters;
+          few_cpus = subst (λ (ms : List ℕ). cpus_in ms ≤ 8) c.counts_is t.few_cpus;
           horizon = s.horizon;
-          is = t.ticks_are;
+          ticks_are = t.ticks_are;
           after = record {
-            bodies = t.bodies;
-            inits = t.inits;
+            limits = t.limits;
+            rest = t.bodies ++ t.inits;
             told_is = refl;
-            more = s.bodies;
-            bodies_are = t.bodies_are;
-            few = t.few_bodies;
-            distinct = t.distinct;
+            limit = s.limit;
+            sets = sets_of_limit t.limits s.limit t.limit_is;
             after = record {
-              more = s.inits;
-              lines = t.inits_are;
-              few = t.few_inits;
-              whole = ap (λ (ms : List ℕ). record s { clusters = ms }) t.one_cpu ∙ ap (λ (n : ℕ). record s { clusters = 1 ∷ []; limit = n }) t.limit;
+              bodies = t.bodies;
+              inits = t.inits;
+              told_is = refl;
+              more = s.bodies;
+              bodies_are = t.bodies_are;
+              few = t.few_bodies;
+              distinct = t.distinct;
+              after = record {
+                more = s.inits;
+                lines = t.inits_are;
+                few = t.few_inits;
+                whole = ap (λ (ms : List ℕ). record s { clusters = ms }) c.counts_is;
+              };
             };
           };
         };

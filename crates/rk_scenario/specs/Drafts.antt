@@ -1,12 +1,13 @@
 -- What has been read so far, as the code has it, and what taking a line does to it.
 use Rattle.std.specs.Prelude.{ℕ, ◌≡◌, ◌≤◌, Result, Ok, Err, length}
 use Rattle.rk_model.specs.declared.scenario.ScenarioWhy.{ScenarioWhy}
+use Rattle.rk_model.specs.Scenarios.{cpus_in}
 use Rattle.rk_model.specs.Reading as reading
 use Rattle.rk_scenario.specs.declared.errors.LineError.{LineError}
 use Rattle.rk_scenario.specs.declared.errors.LineError.TheVariants as errors
 use Rattle.rk_scenario.specs.declared.draft.Draft.{Draft}
 use Rattle.rk_scenario.specs.declared.draft.Phase.{Phase}
-use Rattle.rk_scenario.specs.declared.draft.Phase.TheVariants.{Start, Headed, Clustered, Timed, InBody, InInits}
+use Rattle.rk_scenario.specs.declared.draft.Phase.TheVariants.{Start, Headed, Clustered, Timed, Limited, InBody, InInits}
 
 -- the same phase among the definitions
 abbrev pub phase_of : Phase → reading.Phase
@@ -14,6 +15,7 @@ phase_of Start = reading.Start
 phase_of Headed = reading.Headed
 phase_of Clustered = reading.Clustered
 phase_of Timed = reading.Timed
+phase_of Limited = reading.Limited
 phase_of InBody = reading.InBody
 phase_of InInits = reading.InInits
 
@@ -27,10 +29,12 @@ Takes (Ok x) step new = step ≡ Ok (draft_of new)
 Takes (Err (errors.Fault why)) step new = step ≡ Err why
 Takes (Err errors.Memory) step new = Unit {0}
 
--- There are at most four clusters, and at most so many whole bodies.
+-- There are at most four clusters with at most 8 processors in all, and at most so many whole bodies; the open one has at most 1,000 lines.
 pub record HasAtMost (most : ℕ) (d : Draft) : Type 0 where
   pub clusters : length d.scenario.clusters ≤ 4
+  pub cpus : cpus_in d.scenario.clusters ≤ 8
   pub bodies : length d.scenario.bodies ≤ most
+  pub lines : length d.body.lines ≤ 1000
 
 -- how many whole bodies there are at most at a phase: an open one has its place
 abbrev pub most_bodies : Phase → ℕ
@@ -38,9 +42,10 @@ most_bodies Start = 32
 most_bodies Headed = 32
 most_bodies Clustered = 32
 most_bodies Timed = 32
+most_bodies Limited = 32
 most_bodies InBody = 31
 most_bodies InInits = 32
 
--- The numbers of clusters and bodies are small.
+-- The numbers of clusters, processors, bodies and lines are small.
 abbrev pub IsSmall : Draft → Type 0
 IsSmall d = HasAtMost (most_bodies d.phase) d

@@ -1,4 +1,5 @@
-ghost use Rattle.std.specs.Prelude.{◌≡◌, ◌≤◌, ◌<◌, length, OnOk, IfOk, codes, Ok, Err};
+ghost use Rattle.std.specs.Prelude.{◌≡◌, ◌≤◌, ◌<◌, ◌+◌, ◌&&◌, nat_lt, nat_le, length, OnOk, IfOk, codes, Ok, Err};
+ghost use Rattle.rk_model.specs.Scenarios.{cpus_in};
 ghost use Rattle.rk_model.specs.Reading as reading;
 ghost use Rattle.rk_scenario.specs.Drafts.{draft_of, phase_of, Takes, HasAtMost, most_bodies, IsSmall};
 
@@ -20,8 +21,10 @@ pub(crate) enum Phase {
     Headed,
     /// A cluster.
     Clustered,
-    /// The ticks, and whole bodies.
+    /// The ticks.
     Timed,
+    /// The limit, or a whole body.
+    Limited,
     /// The first line of a body, and not its `end`.
     InBody,
     /// An init line.
@@ -70,6 +73,28 @@ fn is_end(words: &[Word]) -> bool
         [first] => first.as_slice() == b"end".as_slice(),
         _ => false,
     }
+}
+
+/// The processors of all clusters.
+fn cpus_in(clusters: &[u8]) -> u8
+    requires { cpus_in clusters.now ≤ 255 }
+    ensures { result ≡ cpus_in clusters.now }
+{
+    let mut cpus = 0;
+    for count in clusters {
+        cpus += *count;
+    }
+    cpus
+}
+
+/// Whether there may be one cluster more, of so many processors: at most four clusters, with at most
+/// 8 processors in all.
+fn has_room(clusters: &[u8], count: u8) -> bool
+    requires few { cpus_in clusters.now ≤ 8 }
+    requires count { count ≤ 8 }
+    ensures { result ≡ (nat_lt (length clusters.now) 4 && nat_le (cpus_in clusters.now + count) 8) }
+{
+    clusters.len() < 4 && cpus_in(clusters) + count <= 8
 }
 
 /// What the words behind `init` stand for.
@@ -130,7 +155,7 @@ impl Draft {
     }
 
     /// Takes `cluster M`, by the words behind the first.
-    #[tactic(auto, unfolding(rk_model::specs::Reading::cluster_line))]
+    #[tactic(auto, unfolding(rk_model::specs::Reading::cluster_line), using(crate::proofs::Numbers::few_with, crate::proofs::Numbers::few_cpus_with))]
     fn take_cluster(&mut self, operands: &[Word]) -> Result<(), LineError>
         requires { HasAtMost 32 self.old }
         ensures next { Takes result (reading.cluster_line (draft_of self.old) operands.now) self.new }
@@ -138,8 +163,8 @@ impl Draft {
     {
         match operands {
             [count] => {
-                let count = number_operand(1, 1, count.as_slice())?;
-                if self.scenario.clusters.is_empty() {
+                let count = number_operand(1, 8, count.as_slice())?;
+                if has_room(self.scenario.clusters.as_slice(), count as u8) {
                     self.scenario.clusters.push(count as u8)?;
                     self.phase = Phase::Clustered;
                     Ok(())
@@ -160,9 +185,27 @@ impl Draft {
     {
         match operands {
             [ticks] => {
-                let ticks = number_operand(0, 1000, ticks.as_slice())?;
+                let ticks = number_operand(0, 1_000_000, ticks.as_slice())?;
                 self.scenario.horizon = ticks;
                 self.phase = Phase::Timed;
+                Ok(())
+            }
+            _ => Err(LineError::Fault(ScenarioWhy::NotYetBuilt)),
+        }
+    }
+
+    /// Takes `limit N`, by the words behind the first.
+    #[tactic(auto, unfolding(rk_model::specs::Reading::limit_line))]
+    fn take_limit(&mut self, operands: &[Word]) -> Result<(), LineError>
+        requires { HasAtMost 32 self.old }
+        ensures next { Takes result (reading.limit_line (draft_of self.old) operands.now) self.new }
+        ensures small { OnOk result (IsSmall self.new) }
+    {
+        match operands {
+            [number] => {
+                let number = number_operand(1, 1_000_000, number.as_slice())?;
+                self.scenario.limit = number;
+                self.phase = Phase::Limited;
                 Ok(())
             }
             _ => Err(LineError::Fault(ScenarioWhy::NotYetBuilt)),
@@ -206,7 +249,7 @@ impl Draft {
     {
         let body = std::mem::replace(&mut self.body, no_body(alloc));
         self.scenario.bodies.push(body)?;
-        self.phase = Phase::Timed;
+        self.phase = Phase::Limited;
         Ok(())
     }
 
@@ -217,7 +260,7 @@ impl Draft {
         ensures next { Takes result (reading.inner_line (draft_of self.old) words.now) self.new }
         ensures small { OnOk result (IsSmall self.new) }
     {
-        let op = read_op(words)?;
+        let op = read_op(self.body.lines.as_slice(), words)?;
         if self.body.lines.len() < 1000 {
             self.body.lines.push(op)?;
             Ok(())
@@ -267,14 +310,28 @@ impl Draft {
             [first, operands @ ..] if first.as_slice() == b"ticks".as_slice() => {
                 self.take_ticks(operands)
             }
-            _ => Err(LineError::Fault(ScenarioWhy::NotYetBuilt)),
+            _ => self.take_headed(words),
         }
     }
 
-    /// Takes a line after the ticks, and not in a body.
+    /// Takes a line after the ticks.
     fn take_timed(&mut self, alloc: Global, words: &[Word]) -> Result<(), LineError>
         requires { HasAtMost 32 self.old }
         ensures next { Takes result (reading.at_timed (draft_of self.old) words.now) self.new }
+        ensures small { OnOk result (IsSmall self.new) }
+    {
+        match words {
+            [first, operands @ ..] if first.as_slice() == b"limit".as_slice() => {
+                self.take_limit(operands)
+            }
+            _ => self.take_limited(alloc, words),
+        }
+    }
+
+    /// Takes a line after the limit or a whole body.
+    fn take_limited(&mut self, alloc: Global, words: &[Word]) -> Result<(), LineError>
+        requires { HasAtMost 32 self.old }
+        ensures next { Takes result (reading.at_limited (draft_of self.old) words.now) self.new }
         ensures small { OnOk result (IsSmall self.new) }
     {
         match words {
@@ -328,6 +385,7 @@ impl Draft {
             Phase::Headed => self.take_headed(words),
             Phase::Clustered => self.take_clustered(words),
             Phase::Timed => self.take_timed(alloc, words),
+            Phase::Limited => self.take_limited(alloc, words),
             Phase::InBody => self.take_in_body(alloc, words),
             Phase::InInits => self.take_last(words),
         }

@@ -2,10 +2,10 @@ ghost use Rattle.std.specs.Prelude.{◌≡◌, ◌<◌, ◌≤◌, ◌+◌, ◌*
 ghost use Rattle.std.specs.Option.{option_map};
 ghost use Rattle.std.specs.List.{list_all};
 ghost use Rattle.rk_model.specs.Words.{digit_value, digit_below, value_from, decimal_of, number_of, name_of, is_name_byte, is_lower, is_body_byte, is_body_name};
-ghost use Rattle.rk_model.specs.Scenarios.{body_of, body_from, is_named};
-ghost use Rattle.rk_model.specs.Reading.{number_operand, cluster_operand, name_operand, body_operand};
+ghost use Rattle.rk_model.specs.Scenarios.{body_of, body_from, is_named, may_be_target, is_target};
+ghost use Rattle.rk_model.specs.Reading.{number_operand, cluster_operand, id_operand, goto_operand, name_operand, body_operand};
 
-use rk_model::{Body, Name, ScenarioWhy};
+use rk_model::{Body, Name, Op, ScenarioWhy, Target};
 
 /// Greater than every number that a line may have. Numbers of any length are read, and greater
 /// ones are given as this.
@@ -86,6 +86,53 @@ pub(crate) fn cluster_operand(count: usize, word: &[u8]) -> Result<u8, ScenarioW
 {
     match number(word) {
         Some(number) if number < count as u64 => Ok(number as u8),
+        _ => Err(ScenarioWhy::NotYetBuilt),
+    }
+}
+
+/// An ID: `self`, or a number of 32 bits.
+#[tactic(auto, unfolding(rk_model::specs::Reading::id_operand))]
+pub(crate) fn id_operand(word: &[u8]) -> Result<Target, ScenarioWhy>
+    ensures { result ≡ id_operand word.now }
+{
+    if word == b"self".as_slice() {
+        Ok(Target::Own)
+    } else {
+        let bits = number_operand(0, u32::MAX, word)?;
+        Ok(Target::Given(bits))
+    }
+}
+
+/// Whether a goto may lead to what stands at a line.
+fn may_be_target(op: Option<Op>) -> bool
+    ensures { result ≡ may_be_target op }
+{
+    match op {
+        None => false,
+        Some(Op::Goto(_)) => false,
+        Some(_) => true,
+    }
+}
+
+/// Whether a number is that, from 1, of one of these earlier lines that isn't a goto.
+fn is_target(earlier: &[Op], number: u64) -> bool
+    ensures { result ≡ is_target earlier.now number }
+{
+    if number == 0 {
+        false
+    } else {
+        may_be_target(earlier.get(number as usize - 1).copied())
+    }
+}
+
+/// The number that a word spells of one of these earlier lines that isn't a goto.
+#[tactic(auto, unfolding(rk_model::specs::Reading::goto_operand))]
+pub(crate) fn goto_operand(earlier: &[Op], word: &[u8]) -> Result<u32, ScenarioWhy>
+    requires { length earlier.now ≤ 1000 }
+    ensures { result ≡ goto_operand earlier.now word.now }
+{
+    match number(word) {
+        Some(number) if is_target(earlier, number) => Ok(number as u32),
         _ => Err(ScenarioWhy::NotYetBuilt),
     }
 }

@@ -49,7 +49,7 @@ fn finish(draft: Draft, number: u32) -> Result<Scenario, ScenarioError>
     ensures { Answers result (at_end (phase_of draft.phase) draft.scenario number) }
 {
     let why = match draft.phase {
-        Phase::Timed | Phase::InInits => return Ok(draft.scenario),
+        Phase::Timed | Phase::Limited | Phase::InInits => return Ok(draft.scenario),
         Phase::Start => ScenarioWhy::Header,
         Phase::Headed | Phase::Clustered | Phase::InBody => ScenarioWhy::NotYetBuilt,
     };

@@ -1,6 +1,6 @@
 use crate::ScenarioError;
 use crate::read::read_scenario;
-use rk_model::{Init, Name, Op, Prio, Scenario, ScenarioWhy};
+use rk_model::{Init, Name, Op, Prio, Scenario, ScenarioWhy, Target};
 use std::alloc::Global;
 use std::test::Fail;
 
@@ -38,16 +38,32 @@ fn refuses_lines(rt: HostRuntime) {
         ("rtems 1 1\n", 1, HEADER),
         ("\trtems 1\n", 1, NOT_YET),
         ("# \u{7f}\nrtems 1\n", 1, NOT_YET),
-        ("rtems 1\ncluster 2\nticks 0\n", 2, NOT_YET),
-        ("rtems 1\ncluster 1\ncluster 1\nticks 0\n", 3, NOT_YET),
-        ("rtems 1\n\n# none\ncluster 1\nticks 1001\n", 5, NOT_YET),
-        ("rtems 1\ncluster 1\nticks 0\nlimit 5\n", 4, NOT_YET),
+        ("rtems 1\nticks 0\n", 2, NOT_YET),
+        ("rtems 1\n\n# none\ncluster 1\nticks 1000001\n", 5, NOT_YET),
         ("rtems 1\ncluster 1\n# none", 4, NOT_YET),
     ];
     for (text, line, why) in rows {
         let want = Some(ScenarioError::Refused { line, why });
         assert_eq!(rt; refusal(rt.alloc(), text.as_bytes()), want, "{text}");
     }
+}
+
+#[test]
+fn refuses_clusters(rt: HostRuntime) -> Result<(), Fail> {
+    let rows = [
+        ("cluster 0\n", 2),
+        ("cluster 9\n", 2),
+        ("cluster 4\ncluster 5\n", 3),
+        ("cluster 8\ncluster 1\n", 3),
+        ("cluster 1\ncluster 1\ncluster 1\ncluster 1\ncluster 1\n", 6),
+        ("cluster 1\nticks 0\ncluster 1\n", 4),
+    ];
+    for (tail, line) in rows {
+        let text = repeated(rt.alloc(), "rtems 1\n", tail, 1, "")?;
+        let want = Some(ScenarioError::Refused { line, why: NOT_YET });
+        assert_eq!(rt; refusal(rt.alloc(), text.as_bytes()), want, "{tail}");
+    }
+    Ok(())
 }
 
 #[test]
@@ -63,6 +79,21 @@ fn refuses_bodies_and_inits(rt: HostRuntime) -> Result<(), Fail> {
         ("body b\ntask.wake_after 99999999999999999999\nend\n", 5),
         ("body b\ntask.wake_after 0x0000001\nend\n", 5),
         ("body b\ntask.wake_after 0x0000000A\nend\n", 5),
+        ("limit 0\n", 4),
+        ("limit 1000001\n", 4),
+        ("limit 5\nlimit 5\n", 5),
+        ("body b\nend\nlimit 5\n", 6),
+        ("body b\ngoto 0\nend\n", 5),
+        ("body b\ngoto 1\nend\n", 5),
+        ("body b\ngoto 2\nwork 1\nend\n", 5),
+        ("body b\nwork 1\ngoto 2\nend\n", 6),
+        ("body b\nwork 1\ngoto 1\ngoto 2\nend\n", 7),
+        ("body b\nwork 1\ngoto 4294967297\nend\n", 6),
+        ("body b\nwork 1\nend\nbody c\ngoto 1\nend\n", 8),
+        ("body b\ntask.suspend own\nend\n", 5),
+        ("body b\ntask.resume 1a\nend\n", 5),
+        ("body b\ntask.suspend\nend\n", 5),
+        ("body b\ntask.resume 4294967296\nend\n", 5),
         ("body B\nend\n", 4),
         ("body 1b\nend\n", 4),
         ("body bbbbbbbbbbbbbbbbb\nend\n", 4),
@@ -136,9 +167,10 @@ fn counts_bodies(rt: HostRuntime) -> Result<(), Fail> {
 }
 
 /// A text with everything that a text may have.
-const WHOLE: &str = "# A scenario.\n\nrtems 1\n  cluster  0x00000001 \nticks 1000\nbody first\n\
-                     work 1000000\n\n# between\ntask.wake_after 0xffffffff\nend\nbody second_1\n\
-                     \x20 work   7\nend\ninit T_1a 0 255 second_1\n\
+const WHOLE: &str = "# A scenario.\n\nrtems 1\n  cluster  0x00000001 \ncluster 7\nticks 1000000\n\
+                     limit 1\nbody first\nwork 1000000\n\n# between\ntask.wake_after 0xffffffff\nend\n\
+                     body second_1\n\x20 work   7\ntask.suspend self\ngoto 2\ntask.resume 0x0a010001\n\
+                     task.resume 0\ngoto 0x00000005\nend\ninit T_1a 1 255 second_1\n\
                      init aaaa 0 0x00000001 first";
 
 /// The scenario of that text.
@@ -152,8 +184,8 @@ fn whole(alloc: Global) -> Result<Scenario, Fail> {
 #[test]
 fn reads_numbers_and_bodies(rt: HostRuntime) -> Result<(), Fail> {
     let scenario = whole(rt.alloc())?;
-    assert_eq!(rt; scenario.clusters.as_slice(), [1].as_slice());
-    assert_eq!(rt; (scenario.horizon, scenario.limit), (1000, 200_000));
+    assert_eq!(rt; scenario.clusters.as_slice(), [1, 7].as_slice());
+    assert_eq!(rt; (scenario.horizon, scenario.limit), (1_000_000, 1));
     assert_eq!(rt; scenario.bodies.len(), 2);
     let first = scenario.bodies.get(0).ok_or("a body")?;
     assert_eq!(rt; first.name.as_slice(), b"first".as_slice());
@@ -161,7 +193,26 @@ fn reads_numbers_and_bodies(rt: HostRuntime) -> Result<(), Fail> {
     assert_eq!(rt; first.lines.as_slice(), lines.as_slice());
     let second = scenario.bodies.get(1).ok_or("a body")?;
     assert_eq!(rt; second.name.as_slice(), b"second_1".as_slice());
-    assert_eq!(rt; second.lines.as_slice(), [Op::Work(7)].as_slice());
+    let lines = [
+        Op::Work(7),
+        Op::TaskSuspend(Target::Own),
+        Op::Goto(2),
+        Op::TaskResume(Target::Given(0x0a01_0001)),
+        Op::TaskResume(Target::Given(0)),
+        Op::Goto(5),
+    ];
+    assert_eq!(rt; second.lines.as_slice(), lines.as_slice());
+    Ok(())
+}
+
+#[test]
+fn has_a_limit_without_one(rt: HostRuntime) -> Result<(), Fail> {
+    let text = "rtems 1\ncluster 2\ncluster 2\ncluster 2\ncluster 2\nticks 0\n";
+    let scenario = read_scenario(rt.alloc(), text.as_bytes())
+        .ok()
+        .ok_or("it is a text")?;
+    assert_eq!(rt; scenario.clusters.as_slice(), [2, 2, 2, 2].as_slice());
+    assert_eq!(rt; scenario.limit, 200_000);
     Ok(())
 }
 
@@ -171,7 +222,7 @@ fn reads_inits(rt: HostRuntime) -> Result<(), Fail> {
     let inits = [
         Init {
             name: Name { bits: 0x545f_3161 },
-            cluster: 0,
+            cluster: 1,
             prio: Prio::new(255),
             body: 1,
         },
