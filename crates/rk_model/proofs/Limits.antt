@@ -3,16 +3,16 @@ use Rattle.std.proofs.Common.{◌≡◌, ℕ, zero, suc, ◌+◌, ◌<◌, ◌�
 use Rattle.std.specs.List.{AllByRecursion}
 use Rattle.std.proofs.lemmas.Bool.{false≢true}
 use Rattle.rk_model.specs.declared.scenario.Op.{Op}
-use Rattle.rk_model.specs.declared.scenario.Op.TheVariants.{Work, Goto, TaskSuspend, TaskResume, TaskWakeAfter}
+use Rattle.rk_model.specs.declared.scenario.Op.TheVariants.{Work, Goto, TaskCreate, TaskIdent, TaskStart, TaskSuspend, TaskResume, TaskSetPriority, TaskDelete, TaskWakeAfter}
 use Rattle.rk_model.specs.declared.scenario.Body.{Body}
 use Rattle.rk_model.specs.declared.scenario.Init.{Init}
 use Rattle.rk_model.specs.declared.scenario.Scenario.{Scenario}
-use Rattle.rk_model.specs.Scenarios.{IsScenario, IsOp, AreOps, AreBodies, AreInits, IsLimit, may_be_target, is_target}
+use Rattle.rk_model.specs.Scenarios.{IsScenario, Known, with_earlier, IsOp, AreOps, AreBodies, AreInits, IsLimit, may_be_target, is_target}
 use Rattle.rk_model.specs.Limits.{LeadsWithin, IsWithinLimits}
 
-short_bodies : (told : List (List (List ℕ))) (bodies : List Body) → AreBodies told bodies → AllByRecursion (λ (body : Body). length body.lines ≤ 1000) bodies
-short_bodies told [] are = tt
-short_bodies told (body ∷ bodies) are = (are.3.few, short_bodies are.1 bodies are.4)
+short_bodies : (front : List Body) (told : List (List (List ℕ))) (bodies : List Body) → AreBodies front told bodies → AllByRecursion (λ (body : Body). length body.lines ≤ 1000) bodies
+short_bodies front told [] are = tt
+short_bodies front told (body ∷ bodies) are = (are.3.few, short_bodies (front ++ body ∷ []) are.1 bodies are.4)
 
 found_below : (earlier : List Op) (i : ℕ) → may_be_target (slice_get earlier i) ≡ true → i < length earlier
 found_below [] i is = absurd (false≢true is)
@@ -24,28 +24,33 @@ pub target_within : (earlier : List Op) (n : ℕ) → is_target earlier n ≡ tr
 target_within earlier zero is = absurd (false≢true is)
 target_within earlier (suc i) is = (omega arith, omega (arith, found_below earlier i is))
 
-leads : (earlier : List Op) (words : List (List ℕ)) (op : Op) → length earlier ≤ 1000 → IsOp earlier words op → LeadsWithin op
-leads earlier words (Work n) few is = tt
-leads earlier words (Goto target) few is =
-    let within = target_within earlier target is.3 in
+leads : (known : Known) (words : List (List ℕ)) (op : Op) → length known.earlier ≤ 1000 → IsOp known words op → LeadsWithin op
+leads known words (Work n) few is = tt
+leads known words (Goto target) few is =
+    let within = target_within known.earlier target is.3 in
     (within.0, omega (arith, within.1, few))
-leads earlier words (TaskSuspend id) few is = tt
-leads earlier words (TaskResume id) few is = tt
-leads earlier words (TaskWakeAfter n) few is = tt
+leads known words (TaskCreate name prio var) few is = tt
+leads known words (TaskIdent name var) few is = tt
+leads known words (TaskStart id body) few is = tt
+leads known words (TaskSuspend id) few is = tt
+leads known words (TaskResume id) few is = tt
+leads known words (TaskSetPriority id prio var) few is = tt
+leads known words (TaskDelete id) few is = tt
+leads known words (TaskWakeAfter n) few is = tt
 
-near_targets : (earlier : List Op) (told : List (List (List ℕ))) (ops : List Op) → length earlier + length ops ≤ 1000 → AreOps earlier told ops → AllByRecursion LeadsWithin ops
-near_targets earlier [] [] few are = tt
-near_targets earlier [] (op ∷ ops) few are = absurd are
-near_targets earlier (words ∷ told) [] few are = absurd are
-near_targets earlier (words ∷ told) (op ∷ ops) few are =
-    let more : length (earlier ++ op ∷ []) + length ops ≤ 1000 = omega (arith, few, length-append earlier (op ∷ [])) in
-    (leads earlier words op (omega (arith, few)) are.0, near_targets (earlier ++ op ∷ []) told ops more are.1)
+near_targets : (known : Known) (told : List (List (List ℕ))) (ops : List Op) → length known.earlier + length ops ≤ 1000 → AreOps known told ops → AllByRecursion LeadsWithin ops
+near_targets known [] [] few are = tt
+near_targets known [] (op ∷ ops) few are = absurd are
+near_targets known (words ∷ told) [] few are = absurd are
+near_targets known (words ∷ told) (op ∷ ops) few are =
+    let more : length (known.earlier ++ op ∷ []) + length ops ≤ 1000 = omega (arith, few, length-append known.earlier (op ∷ [])) in
+    (leads known words op (omega (arith, few)) are.0, near_targets (with_earlier known op) told ops more are.1)
 
-targets_of : (told : List (List (List ℕ))) (bodies : List Body) → AreBodies told bodies → AllByRecursion (λ (body : Body). AllByRecursion LeadsWithin body.lines) bodies
-targets_of told [] are = tt
-targets_of told (body ∷ bodies) are =
+targets_of : (front : List Body) (told : List (List (List ℕ))) (bodies : List Body) → AreBodies front told bodies → AllByRecursion (λ (body : Body). AllByRecursion LeadsWithin body.lines) bodies
+targets_of front told [] are = tt
+targets_of front told (body ∷ bodies) are =
     let few : 0 + length body.lines ≤ 1000 = omega (arith, are.3.few) in
-    (near_targets [] are.3.inner body.lines few are.3.ops, targets_of are.1 bodies are.4)
+    (near_targets (record { bodies = front; own = body.name; earlier = [] }) are.3.inner body.lines few are.3.ops, targets_of (front ++ body ∷ []) are.1 bodies are.4)
 
 near_homes : (s : Scenario) (told : List (List (List ℕ))) (inits : List Init) → AreInits s told inits → AllByRecursion (λ (init : Init). init.cluster < length s.clusters) inits
 near_homes s [] [] are = tt
@@ -70,8 +75,8 @@ limits_of s is =
       some_limit = limit.0;
       limit = limit.1;
       few_bodies = lines.few_bodies;
-      bodies = short_bodies lines.bodies s.bodies lines.bodies_are;
-      targets = targets_of lines.bodies s.bodies lines.bodies_are;
+      bodies = short_bodies [] lines.bodies s.bodies lines.bodies_are;
+      targets = targets_of [] lines.bodies s.bodies lines.bodies_are;
       few_inits = lines.few_inits;
       homes = near_homes s lines.inits s.inits lines.inits_are;
     }

@@ -4,7 +4,7 @@ use Rattle.std.specs.List.{AllByRecursion}
 use Rattle.rk_model.specs.declared.scenario.Body.{Body}
 use Rattle.rk_model.specs.declared.scenario.Init.{Init}
 use Rattle.rk_model.specs.declared.scenario.Op.{Op}
-use Rattle.rk_model.specs.declared.scenario.Op.TheVariants.{Work, Goto, TaskSuspend, TaskResume, TaskWakeAfter}
+use Rattle.rk_model.specs.declared.scenario.Op.TheVariants.{Work, Goto, TaskCreate, TaskIdent, TaskStart, TaskSuspend, TaskResume, TaskSetPriority, TaskDelete, TaskWakeAfter}
 use Rattle.rk_model.specs.declared.scenario.Scenario.{Scenario}
 use Rattle.rk_model.specs.Scenarios.{cpus_in}
 
@@ -12,8 +12,13 @@ use Rattle.rk_model.specs.Scenarios.{cpus_in}
 abbrev pub LeadsWithin : Op → Type 0
 LeadsWithin (Work n) = Unit {0}
 LeadsWithin (Goto target) = (1 ≤ target) × (target ≤ 1000)
+LeadsWithin (TaskCreate name prio var) = Unit {0}
+LeadsWithin (TaskIdent name var) = Unit {0}
+LeadsWithin (TaskStart id body) = Unit {0}
 LeadsWithin (TaskSuspend id) = Unit {0}
 LeadsWithin (TaskResume id) = Unit {0}
+LeadsWithin (TaskSetPriority id prio var) = Unit {0}
+LeadsWithin (TaskDelete id) = Unit {0}
 LeadsWithin (TaskWakeAfter n) = Unit {0}
 
 -- What the rest of the kernel relies on: the least and the greatest numbers of things.
