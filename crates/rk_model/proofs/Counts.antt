@@ -89,5 +89,6 @@ length_within n xs once within = rw length_range at (length_by_times xs (range_w
   by : (t : ℕ) (b : Bool) → has xs t ≡ b → times t xs ≤ times t (range_with_len 1 n)
   by t true is = let w = within t is in let high : t < 1 + n = omega (arith, w.1) in omega (arith, once t, once_in_range t 1 n w.0 high)
   by t false is = omega (arith, times_none t xs is)
+
   no_more : (t : ℕ) → times t xs ≤ times t (range_with_len 1 n)
   no_more t = by t (has xs t) refl
