@@ -114,7 +114,7 @@ expire_gentle k c xs x sound within due =
     let calls = in_call (thread_at k t).wait (thread_at k t) parts.1 in
     let thread : Thread = record (thread_at k t) { wait = None; finished = Some (reply_at_timer (thread_at k t).wait) } in
     gentle_timers k t c thread timers sound (sym parts.0) refl
-    (record { home = b.home; line = b.line; working = b.working; calling = λ _. b.calling calls; apart = λ w. absurd (false≢true (sym (b.apart w) ∙ calls)); computed = b.computed })
+    (record { home = b.home; line = b.line; working = b.working; calling = λ _. b.calling calls; apart = λ w. absurd (false≢true (sym (b.apart w) ∙ calls)); acts = λ _ free. absurd (false≢true (sym free)); computed = b.computed })
     (λ u. fired_here k c t u thread timers sound within timed parts.0 refl (gone u) (eqb t u) refl)
 
 -- the timers behind the first

@@ -1,8 +1,9 @@
 -- Each directive changes little, so that settling makes the state sound again.
-use Rattle.std.proofs.Common.{◌≡◌, ◌≢◌, ℕ, ◌+◌, ◌<◌, ◌≤◌, List, Bool, true, false, cond, eqb, ◌&&◌, Option, None, Some, length, arith, refl, sym, ◌∙◌, ap}
+use Rattle.std.proofs.Common.{◌≡◌, ◌≢◌, ℕ, ◌+◌, ◌<◌, ◌≤◌, List, Bool, true, false, cond, eqb, ◌&&◌, Option, None, Some, length, arith, refl, sym, ◌∙◌, ap, subst}
 use Rattle.std.specs.List.{slice_set}
 use Rattle.std.proofs.lemmas.Bool.Decides.{nat_tests}
 use Rattle.rk_model.specs.declared.state.Life.TheVariants.{Ended}
+use Rattle.rk_model.specs.declared.scenario.Scenario.{Scenario}
 use Rattle.rk_model.specs.declared.state.Thread.{Thread}
 use Rattle.rk_model.specs.declared.state.Armed.{Armed}
 use Rattle.rk_model.specs.Lists.{times}
@@ -29,26 +30,26 @@ gentle_same k sound = record {
 }
 
 -- to put back one more thread within its bounds, with its home and its wait
-gentle_more : (k m : Plain) (t : ℕ) (thread : Thread) → IsGentle k m → thread.home ≡ (thread_at m t).home → thread.wait ≡ (thread_at m t).wait → IsInBounds (length k.clusters) k.present thread → IsGentle k (put_thread m t thread)
+gentle_more : (k m : Plain) (t : ℕ) (thread : Thread) → IsGentle k m → thread.home ≡ (thread_at m t).home → thread.wait ≡ (thread_at m t).wait → IsInBounds k.scenario (length k.clusters) k.present thread → IsGentle k (put_thread m t thread)
 gentle_more k m t thread gentle home wait bounds = record {
   scenario = gentle.scenario;
   present = gentle.present;
   places = length-with_nth thread m.threads t ∙ gentle.places;
   homes = λ u h. nth-with_kept (λ (x : Thread). x.home) no_thread thread m.threads t u home ∙ gentle.homes u h;
-  threads = All-with_nth (IsInBounds (length k.clusters) k.present) thread m.threads t bounds gentle.threads;
+  threads = All-with_nth (IsInBounds k.scenario (length k.clusters) k.present) thread m.threads t bounds gentle.threads;
   lines = gentle.lines;
   timers = timed_again m (put_thread m t thread) 0 m.clusters (is_timed-put_thread m t thread home wait) gentle.timers;
 }
 
 -- to put back a thread within its bounds, with its home and its wait
-pub gentle_put : (k : Plain) (t : ℕ) (thread : Thread) → IsSound k → thread.home ≡ (thread_at k t).home → thread.wait ≡ (thread_at k t).wait → IsInBounds (length k.clusters) k.present thread → IsGentle k (put_thread k t thread)
+pub gentle_put : (k : Plain) (t : ℕ) (thread : Thread) → IsSound k → thread.home ≡ (thread_at k t).home → thread.wait ≡ (thread_at k t).wait → IsInBounds k.scenario (length k.clusters) k.present thread → IsGentle k (put_thread k t thread)
 gentle_put k t thread sound home wait bounds = gentle_more k k t thread (gentle_same k sound) home wait bounds
 
 elsewhere : (k : Plain) (t d : ℕ) → d ≢ (thread_at k t).home → eqb (thread_at k t).home d ≡ false
 elsewhere k t d other = grind (arith, nat_tests, other)
 
 -- to put back a thread within its bounds, with its home, and other timers there, which are those of its threads whose wait has one
-pub gentle_timers : (k : Plain) (t h : ℕ) (thread : Thread) (timers : List Armed) → IsSound k → h ≡ (thread_at k t).home → thread.home ≡ (thread_at k t).home → IsInBounds (length k.clusters) k.present thread →
+pub gentle_timers : (k : Plain) (t h : ℕ) (thread : Thread) (timers : List Armed) → IsSound k → h ≡ (thread_at k t).home → thread.home ≡ (thread_at k t).home → IsInBounds k.scenario (length k.clusters) k.present thread →
     ((u : ℕ) → times u (sleepers timers) ≡ cond (is_timed (put_thread k t thread) h u) 1 0) →
     IsGentle k (put_cluster (put_thread k t thread) h (record (cluster_at k h) { timers = timers }))
 gentle_timers k t h thread timers sound e home bounds here =
@@ -58,7 +59,7 @@ gentle_timers k t h thread timers sound e home bounds here =
       present = refl;
       places = length-with_nth thread k.threads t;
       homes = λ u _. nth-with_kept (λ (x : Thread). x.home) no_thread thread k.threads t u home;
-      threads = All-with_nth (IsInBounds (length k.clusters) k.present) thread k.threads t bounds sound.threads;
+      threads = All-with_nth (IsInBounds k.scenario (length k.clusters) k.present) thread k.threads t bounds sound.threads;
       lines = keeps_timers k.clusters h timers;
       timers = timed_put k (record (put_thread k t thread) { clusters = clusters }) h 0 h k.clusters (record (cluster_at k h) { timers = timers }) (omega arith)
           (λ d u other. is_timed-with_clusters (put_thread k t thread) clusters d u ∙ is_timed-put_elsewhere k t thread home d u (elsewhere k t d (λ q. other (q ∙ sym e))))
@@ -82,14 +83,15 @@ is_timed_other k t d u thread other = rw (nth-with_other no_thread thread k.thre
 pub exit_gentle : (k : Plain) (t : ℕ) → IsSound k → IsGentle k (task_exit k t).next
 exit_gentle k t sound =
     let b = bounds_at k t sound in
-    gentle_put k t (record (thread_at k t) { life = Ended }) sound refl refl (record { home = b.home; line = b.line; working = b.working; calling = b.calling; apart = b.apart; computed = b.computed })
+    gentle_put k t (record (thread_at k t) { life = Ended }) sound refl refl (record { home = b.home; line = b.line; working = b.working; calling = b.calling; apart = b.apart; acts = b.acts; computed = b.computed })
 
 -- a thread that is in no call goes on after a gentle change
 go_on_more : (k m : Plain) (t : ℕ) → IsSound k → IsGentle k m → (thread_at m t).line ≤ 1000 → is_in_call (thread_at m t).wait (thread_at m t).finished ≡ false → IsGentle k (go_on m t)
 go_on_more k m t sound gentle low free =
     let b = bounds_in k m t sound gentle in
     gentle_more k m t (gone_on m.scenario (thread_at m t)) gentle refl refl
-    (arrived_bounds m.scenario (length k.clusters) k.present (thread_at m t) ((thread_at m t).line + 1) (rw gentle.scenario sound.bodies) (rw gentle.scenario sound.targets) b.home (omega arith) b.computed free)
+    (subst (λ (s : Scenario). IsInBounds k.scenario (length k.clusters) k.present (gone_on s (thread_at m t))) (sym gentle.scenario)
+    (arrived_bounds k.scenario (length k.clusters) k.present (thread_at m t) ((thread_at m t).line + 1) sound.bodies sound.targets sound.ops b.home (omega arith) b.computed free))
 
 -- a thread that is in no call goes on
 pub go_on_gentle : (k : Plain) (t : ℕ) → IsSound k → (thread_at k t).line ≤ 1000 → is_in_call (thread_at k t).wait (thread_at k t).finished ≡ false → IsGentle k (go_on k t)
@@ -99,7 +101,7 @@ go_on_gentle k t sound low free = go_on_more k k t sound (gentle_same k sound) l
 suspended_gentle : (k : Plain) (u : ℕ) (suspended : Bool) → IsSound k → IsGentle k (with_suspended k u suspended)
 suspended_gentle k u suspended sound =
     let b = bounds_at k u sound in
-    gentle_put k u (record (thread_at k u) { suspended = suspended }) sound refl refl (record { home = b.home; line = b.line; working = b.working; calling = b.calling; apart = b.apart; computed = b.computed })
+    gentle_put k u (record (thread_at k u) { suspended = suspended }) sound refl refl (record { home = b.home; line = b.line; working = b.working; calling = b.calling; apart = b.apart; acts = b.acts; computed = b.computed })
 
 -- the same where a thread that is in no call goes on then
 go_on_suspended : (k : Plain) (t u : ℕ) (suspended : Bool) → IsSound k → (thread_at k t).line ≤ 1000 → is_in_call (thread_at k t).wait (thread_at k t).finished ≡ false → IsGentle k (go_on (with_suspended k u suspended) t)

@@ -26,3 +26,4 @@ pub mod Belonging
 pub mod Seats
 pub mod Ranking
 pub mod Manning
+pub mod Acting

@@ -79,12 +79,12 @@ cpus-free [] = refl
 cpus-free (m ∷ counts) = omega (arith, length-append (replicate m (let n : Option ℕ = None in n)) (all_cpus (map free_cluster counts)), length-replicate {A = Option ℕ}, cpus-free counts)
 
 -- a thread of an init line is within its bounds
-bounds_begun : (s : Scenario) (init : Init) (m : ℕ) → IsWithinLimits s → init.cluster < m → IsInBounds m 0 (begun s init)
-bounds_begun s init m within home = arrived_bounds s m 0 (record no_thread { life = Started; home = init.cluster; base = init.prio; body = init.body }) 1 within.bodies within.targets home (omega arith) (omega arith) refl
+bounds_begun : (s : Scenario) (init : Init) (m : ℕ) → IsWithinLimits s → init.cluster < m → IsInBounds s m 0 (begun s init)
+bounds_begun s init m within home = arrived_bounds s m 0 (record no_thread { life = Started; home = init.cluster; base = init.prio; body = init.body }) 1 within.bodies within.targets within.ops home (omega arith) (omega arith) refl
 
-all_begun : (s : Scenario) (m n : ℕ) (inits : List Init) → IsWithinLimits s → 0 < m → AllByRecursion (λ (init : Init). init.cluster < m) inits → AllByRecursion (IsInBounds m 0) (places n (map (begun s) inits))
+all_begun : (s : Scenario) (m n : ℕ) (inits : List Init) → IsWithinLimits s → 0 < m → AllByRecursion (λ (init : Init). init.cluster < m) inits → AllByRecursion (IsInBounds s m 0) (places n (map (begun s) inits))
 all_begun s m zero inits within some homes = tt
-all_begun s m (suc n) [] within some homes = (none_bounds m 0 some, all_begun s m n [] within some tt)
+all_begun s m (suc n) [] within some homes = (none_bounds s m 0 some, all_begun s m n [] within some tt)
 all_begun s m (suc n) (init ∷ inits) within some homes = (bounds_begun s init m within homes.0, all_begun s m n inits within some homes.1)
 
 waits_not_from : (s : Scenario) (n : ℕ) (inits : List Init) (i : ℕ) → (get_or (places n (map (begun s) inits)) i no_thread).wait ≡ None
@@ -111,7 +111,8 @@ sound_vacant s within =
       present = omega arith;
       bodies = within.bodies;
       targets = within.targets;
-      threads = rw size (All-from_recursion (IsInBounds (length s.clusters) 0) (places 64 []) (all_begun s (length s.clusters) 64 [] within within.some_cluster tt));
+      ops = within.ops;
+      threads = rw size (All-from_recursion (IsInBounds s (length s.clusters) 0) (places 64 []) (all_begun s (length s.clusters) 64 [] within within.some_cluster tt));
       clusters = all_free (vacant s) 0 s.clusters (no_place 64) within.few_cpus;
     }
 
@@ -124,7 +125,7 @@ gentle_started s within =
       present = refl;
       places = length-places 64 (map (begun s) s.inits) ∙ sym (length-places 64 []);
       homes = λ t h. absurd (false≢true (sym (never_eligible (vacant s) t (no_place 64 t)) ∙ h));
-      threads = rw size (All-from_recursion (IsInBounds (length s.clusters) 0) threads (all_begun s (length s.clusters) 64 s.inits within within.some_cluster within.homes));
+      threads = rw size (All-from_recursion (IsInBounds s (length s.clusters) 0) threads (all_begun s (length s.clusters) 64 s.inits within within.some_cluster within.homes));
       lines = keeps_same (vacant s).clusters;
       timers = all_untimed (started s) 0 s.clusters (waits_not s 64 s.inits);
     }

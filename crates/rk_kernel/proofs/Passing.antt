@@ -1,5 +1,5 @@
 -- A tick that passes keeps a state sound, before any timer fires.
-use Rattle.std.proofs.Common.{◌≡◌, ℕ, zero, suc, ◌+◌, ◌<◌, ◌≤◌, List, [], ◌∷◌, Bool, true, false, cond, eqb, ◌||◌, ◌&&◌, not, Option, None, Some, length, get_or, arith, refl, ap, sym, ◌∙◌}
+use Rattle.std.proofs.Common.{◌≡◌, ℕ, zero, suc, ◌+◌, ◌-◌, ◌<◌, ◌≤◌, List, [], ◌∷◌, Bool, true, false, cond, eqb, ◌||◌, ◌&&◌, not, Option, None, Some, length, get_or, arith, refl, ap, sym, ◌∙◌}
 use Rattle.std.specs.List.{AllByRecursion, range_with_len}
 use Rattle.std.proofs.lemmas.Bool.Decides.{nat_tests}
 use Rattle.std.proofs.lemmas.List.Elements.{filter_agree, All-from_recursion, recursion_from_All}
@@ -13,7 +13,7 @@ use Rattle.rk_model.specs.State.{Plain, ClusterState, no_thread, thread_at}
 use Rattle.rk_model.specs.Priorities.{is_eligible, is_started, is_no_wait, spins_in}
 use Rattle.rk_model.specs.Running.{runs_somewhere}
 use Rattle.rk_model.specs.Ticks.{charged, ticked, charge_from, pass}
-use Rattle.rk_kernel.specs.Sound.{AllLead, IsSound, IsInBounds, AllSound, own, stands, is_timed, has_time}
+use Rattle.rk_kernel.specs.Sound.{AllLead, AllGoOn, IsSound, IsInBounds, AllSound, own, stands, is_timed, has_time}
 use Rattle.rk_kernel.proofs.Bounds.{arrived_bounds}
 
 -- what holds at each of two outcomes of a test holds of the choice
@@ -76,27 +76,32 @@ sound_clusters k c (cluster ∷ clusters) sound = (
   sound_clusters k (c + 1) clusters sound.1,
 )
 
+more_left : (left : ℕ) → eqb left 0 ≡ false → eqb left 1 ≡ false → left - 1 ≡ 0 → ⊥
+more_left zero some more none = grind (arith, nat_tests, some)
+more_left (suc zero) some more none = grind (arith, nat_tests, more)
+more_left (suc (suc n)) some more none = omega (arith, none)
+
 -- a thread that is charged in a tick is within the bounds after it
-charged_bounds : (s : Scenario) (n p : ℕ) (x : Thread) → AllByRecursion (λ (body : Body). length body.lines ≤ 1000) s.bodies → AllLead s.bodies → IsInBounds n p x → IsInBounds n (p + 1) (charged s x)
-charged_bounds s n p x short lead b =
-    let P : Thread → Type 0 = IsInBounds n (p + 1) in
-    by_test P (eqb x.left 0) _ _ (λ _. record { home = b.home; line = b.line; working = b.working; calling = b.calling; apart = b.apart; computed = omega (arith, b.computed) })
+charged_bounds : (s : Scenario) (n p : ℕ) (x : Thread) → AllByRecursion (λ (body : Body). length body.lines ≤ 1000) s.bodies → AllLead s.bodies → AllGoOn s.bodies → IsInBounds s n p x → IsInBounds s n (p + 1) (charged s x)
+charged_bounds s n p x short lead goes b =
+    let P : Thread → Type 0 = IsInBounds s n (p + 1) in
+    by_test P (eqb x.left 0) _ _ (λ _. record { home = b.home; line = b.line; working = b.working; calling = b.calling; apart = b.apart; acts = b.acts; computed = omega (arith, b.computed) })
     (λ some. by_test P (eqb x.left 1) _ _
     (λ one.
     let left : 0 < x.left = grind (arith, nat_tests) in
-    let a = arrived_bounds s n p x (x.line + 1) short lead b.home (omega (arith, b.working left)) b.computed (b.apart left) in
-    record { home = a.home; line = a.line; working = a.working; calling = a.calling; apart = a.apart; computed = omega (arith, b.computed) })
-    (λ more. record { home = b.home; line = b.line; working = λ w. b.working (omega (arith, w)); calling = b.calling; apart = λ w. b.apart (omega (arith, w)); computed = omega (arith, b.computed) }))
+    let a = arrived_bounds s n p x (x.line + 1) short lead goes b.home (omega (arith, b.working left)) b.computed (b.apart left) in
+    record { home = a.home; line = a.line; working = a.working; calling = a.calling; apart = a.apart; acts = a.acts; computed = omega (arith, b.computed) })
+    (λ more. record { home = b.home; line = b.line; working = λ w. b.working (omega (arith, w)); calling = b.calling; apart = λ w. b.apart (omega (arith, w)); acts = λ none _. absurd (more_left x.left some more none); computed = omega (arith, b.computed) }))
 
-later_bounds : (n p : ℕ) (x : Thread) → IsInBounds n p x → IsInBounds n (p + 1) x
-later_bounds n p x b = record { home = b.home; line = b.line; working = b.working; calling = b.calling; apart = b.apart; computed = omega (arith, b.computed) }
+later_bounds : (s : Scenario) (n p : ℕ) (x : Thread) → IsInBounds s n p x → IsInBounds s n (p + 1) x
+later_bounds s n p x b = record { home = b.home; line = b.line; working = b.working; calling = b.calling; apart = b.apart; acts = b.acts; computed = omega (arith, b.computed) }
 
-charge_bounds : (k : Plain) (n t : ℕ) (ts : List Thread) → AllByRecursion (λ (body : Body). length body.lines ≤ 1000) k.scenario.bodies → AllLead k.scenario.bodies → AllByRecursion (IsInBounds n k.present) ts → AllByRecursion (IsInBounds n (k.present + 1)) (charge_from k t ts)
+charge_bounds : (k : Plain) (n t : ℕ) (ts : List Thread) → AllByRecursion (λ (body : Body). length body.lines ≤ 1000) k.scenario.bodies → AllLead k.scenario.bodies → AllGoOn k.scenario.bodies → AllByRecursion (IsInBounds k.scenario n k.present) ts → AllByRecursion (IsInBounds k.scenario n (k.present + 1)) (charge_from k t ts)
 unfolding ticked
-charge_bounds k n t [] short lead all = tt
-charge_bounds k n t (x ∷ xs) short lead all =
-    let P : Thread → Type 0 = IsInBounds n (k.present + 1) in
-    (by_test P (runs_somewhere k t) _ _ (λ _. charged_bounds k.scenario n k.present x short lead all.0) (λ _. later_bounds n k.present x all.0), charge_bounds k n (t + 1) xs short lead all.1)
+charge_bounds k n t [] short lead goes all = tt
+charge_bounds k n t (x ∷ xs) short lead goes all =
+    let P : Thread → Type 0 = IsInBounds k.scenario n (k.present + 1) in
+    (by_test P (runs_somewhere k t) _ _ (λ _. charged_bounds k.scenario n k.present x short lead goes all.0) (λ _. later_bounds k.scenario n k.present x all.0), charge_bounds k n (t + 1) xs short lead goes all.1)
 
 -- A tick below the horizon keeps a state sound.
 pub sound_pass : (k : Plain) → IsSound k → k.present < k.scenario.horizon → IsSound (pass k)
@@ -109,6 +114,7 @@ sound_pass k sound below = record {
   present = omega arith;
   bodies = sound.bodies;
   targets = sound.targets;
-  threads = All-from_recursion (IsInBounds (length k.clusters) (k.present + 1)) _ (charge_bounds k (length k.clusters) 1 k.threads sound.bodies sound.targets (recursion_from_All (IsInBounds (length k.clusters) k.present) k.threads sound.threads));
+  ops = sound.ops;
+  threads = All-from_recursion (IsInBounds k.scenario (length k.clusters) (k.present + 1)) _ (charge_bounds k (length k.clusters) 1 k.threads sound.bodies sound.targets sound.ops (recursion_from_All (IsInBounds k.scenario (length k.clusters) k.present) k.threads sound.threads));
   clusters = sound_clusters k 0 k.clusters sound.clusters;
 }

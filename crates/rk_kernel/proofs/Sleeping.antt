@@ -55,7 +55,7 @@ sleep_gentle k t ticks sound above low none done line =
     let b = bounds_at k t sound in
     let thread : Thread = record (thread_at k t) { wait = Some ForTime } in
     gentle_timers k t (thread_at k t).home thread _ sound refl refl
-    (record { home = b.home; line = b.line; working = b.working; calling = λ _. line; apart = λ w. absurd (omega (arith, w, done)); computed = b.computed })
+    (record { home = b.home; line = b.line; working = b.working; calling = λ _. line; apart = λ w. absurd (omega (arith, w, done)); acts = λ _ free. absurd (false≢true (sym free)); computed = b.computed })
     (λ u. slept_here k t (thread_at k t).home (k.present + ticks) u thread sound b.home above low none refl refl (eqb t u) refl)
 
 outside_range : (t a n : ℕ) → t < a → times t (range_with_len a n) ≡ 0
@@ -94,7 +94,7 @@ back_gentle k t reply sound none finished =
     let b = bounds_at k t sound in
     let low = b.calling (rw (none, finished) refl) in
     gentle_put k t (gone_on k.scenario (record (thread_at k t) { finished = None })) sound refl refl
-    (arrived_bounds k.scenario (length k.clusters) k.present (record (thread_at k t) { finished = None }) ((thread_at k t).line + 1) sound.bodies sound.targets b.home (omega arith) b.computed (rw none refl))
+    (arrived_bounds k.scenario (length k.clusters) k.present (record (thread_at k t) { finished = None }) ((thread_at k t).line + 1) sound.bodies sound.targets sound.ops b.home (omega arith) b.computed (rw none refl))
 
 wake_after_gentle : (k : Plain) (t ticks : ℕ) → IsSound k → 0 < t → t ≤ length k.threads → (thread_at k t).wait ≡ None → (thread_at k t).finished ≡ None → (thread_at k t).left ≡ 0 → (thread_at k t).line ≤ 1000 → (b : Bool) → eqb ticks 0 ≡ b → IsGentle k (cond b (yield k t) (sleep k t ticks)).next
 wake_after_gentle k t ticks sound above low none free done line true e = go_on_gentle k t sound line (rw (none, free) refl)

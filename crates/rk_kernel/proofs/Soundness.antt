@@ -93,6 +93,7 @@ sound_settled k next last sound gentle =
       present = rw (gentle.present, gentle.scenario) sound.present;
       bodies = rw gentle.scenario sound.bodies;
       targets = rw gentle.scenario sound.targets;
-      threads = rw (length-settled, same_length, gentle.present) gentle.threads;
+      ops = rw gentle.scenario sound.ops;
+      threads = rw (length-settled, same_length, gentle.present, gentle.scenario) gentle.threads;
       clusters = all_sound k next last (settle k next last).clusters 0 k.clusters next.clusters gentle sound.clusters gentle.lines gentle.timers;
     }

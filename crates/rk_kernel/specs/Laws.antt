@@ -4,13 +4,13 @@ use Rattle.rk_model.specs.declared.scenario.Scenario.{Scenario}
 use Rattle.rk_model.specs.declared.entry.Entry.{Entry}
 use Rattle.rk_model.specs.declared.entry.View.TheVariants.{Runs}
 use Rattle.rk_model.specs.Lists.{has, times}
-use Rattle.rk_model.specs.State.{Plain, cluster_at}
+use Rattle.rk_model.specs.State.{Plain, thread_at, op_at, cluster_at}
 use Rattle.rk_model.specs.Priorities.{home_prio}
 use Rattle.rk_model.specs.Lines.{rank, runners}
-use Rattle.rk_model.specs.Running.{running}
+use Rattle.rk_model.specs.Running.{running, caller}
 use Rattle.rk_model.specs.Histories.{Legal, after}
 use Rattle.rk_model.specs.Scenarios.{IsScenario}
-use Rattle.rk_kernel.specs.Sound.{stands}
+use Rattle.rk_kernel.specs.Sound.{stands, has_action}
 
 -- it holds of the state after each legal history of each scenario
 abbrev pub AfterEach : (Plain → Type 0) → Type 0
@@ -57,3 +57,7 @@ RunnersAreTheMostUrgent = AfterEach RunsTheMostUrgent
 -- No thread runs on two processors.
 abbrev pub NoneRunsTwice : Type 0
 NoneRunsTwice = AfterEach (λ k. (p q t : ℕ) → running k p ≡ Runs t → running k q ≡ Runs t → p ≡ q)
+
+-- A directive never acts for a line of work or a goto: a thread that has a directive and doesn't return from one is at another line, or behind the last.
+abbrev pub NoneActsAtWork : Type 0
+NoneActsAtWork = AfterEach (λ k. (p t : ℕ) → caller k p ≡ Some t → (thread_at k t).finished ≡ None → has_action (op_at k.scenario (thread_at k t).body (thread_at k t).line) ≡ true)

@@ -1,18 +1,21 @@
 -- What holds of each state that a run of a scenario reaches.
 use Rattle.std.specs.Prelude.{ℕ, ◌+◌, ◌<◌, ◌≤◌, ◌≡◌, List, [], ◌∷◌, Bool, true, false, ◌&&◌, ◌==◌, Option, Some, None, length, All, filter, if◌then◌else◌}
 use Rattle.std.specs.List.{range_with_len, AllByRecursion}
+use Rattle.rk_model.specs.declared.scenario.Scenario.{Scenario}
 use Rattle.rk_model.specs.declared.scenario.Body.{Body}
+use Rattle.rk_model.specs.declared.scenario.Op.{Op}
+use Rattle.rk_model.specs.declared.scenario.Op.TheVariants.{Work, Goto, TaskSuspend, TaskResume, TaskWakeAfter}
 use Rattle.rk_model.specs.declared.state.Thread.{Thread}
 use Rattle.rk_model.specs.declared.entry.Reply.{Reply}
 use Rattle.rk_model.specs.declared.state.Wait.{Wait}
 use Rattle.rk_model.specs.declared.state.Wait.TheVariants.{ForTime}
 use Rattle.rk_model.specs.Lists.{has, times}
-use Rattle.rk_model.specs.State.{Plain, ClusterState, thread_at}
+use Rattle.rk_model.specs.State.{Plain, ClusterState, thread_at, op_at}
 use Rattle.rk_model.specs.Priorities.{is_eligible}
 use Rattle.rk_model.specs.Lines.{has_cpu}
 use Rattle.rk_model.specs.Running.{cpu_count}
 use Rattle.rk_model.specs.Timers.{sleepers}
-use Rattle.rk_model.specs.Limits.{LeadsWithin}
+use Rattle.rk_model.specs.Limits.{LeadsWithin, GoesOn}
 
 -- whether a thread is eligible and of this home
 unfoldable pub stands : Plain → ℕ → ℕ → Bool
@@ -52,18 +55,33 @@ is_in_call None None = false
 is_in_call None (Some reply) = true
 is_in_call (Some w) finished = true
 
+-- whether there is an action where this stands, or behind the last line: none for work, which is computed, and none for a goto, which leads on
+abbrev pub has_action : Option Op → Bool
+has_action None = true
+has_action (Some (Work n)) = false
+has_action (Some (Goto target)) = false
+has_action (Some (TaskSuspend id)) = true
+has_action (Some (TaskResume id)) = true
+has_action (Some (TaskWakeAfter n)) = true
+
 -- a thread's home, place and counts are within their limits
-pub record IsInBounds (clusters present : ℕ) (thread : Thread) : Type 0 where
+pub record IsInBounds (s : Scenario) (clusters present : ℕ) (thread : Thread) : Type 0 where
   pub home : thread.home < clusters
   pub line : thread.line ≤ 1001
   pub working : 0 < thread.left → thread.line ≤ 1000
   pub calling : is_in_call thread.wait thread.finished ≡ true → thread.line ≤ 1000
   pub apart : 0 < thread.left → is_in_call thread.wait thread.finished ≡ false
+  -- with no work left, and in no directive that waits, it is where there is an action
+  pub acts : thread.left ≡ 0 → is_in_call thread.wait thread.finished ≡ false → has_action (op_at s thread.body thread.line) ≡ true
   pub computed : thread.computed ≤ present
 
 -- each goto of these bodies leads to a line from 1 to 1,000
 abbrev pub AllLead : List Body → Type 0
 AllLead bodies = AllByRecursion (λ (body : Body). AllByRecursion LeadsWithin body.lines) bodies
+
+-- in these bodies work has at least one tick, and no goto leads to a goto
+abbrev pub AllGoOn : List Body → Type 0
+AllGoOn bodies = AllByRecursion (λ (body : Body). AllByRecursion (GoesOn body.lines) body.lines) bodies
 
 -- A state that a run may reach: sizes and numbers are within their limits, each thread is in bounds, and each cluster is sound.
 pub record IsSound (k : Plain) : Type 0 where
@@ -75,7 +93,8 @@ pub record IsSound (k : Plain) : Type 0 where
   pub present : k.present ≤ k.scenario.horizon
   pub bodies : AllByRecursion (λ (body : Body). length body.lines ≤ 1000) k.scenario.bodies
   pub targets : AllLead k.scenario.bodies
-  pub threads : All (IsInBounds (length k.clusters) k.present) k.threads
+  pub ops : AllGoOn k.scenario.bodies
+  pub threads : All (IsInBounds k.scenario (length k.clusters) k.present) k.threads
   pub clusters : AllSound k 0 k.clusters
 
 -- Each cluster has its line and its processors as before.
@@ -96,6 +115,6 @@ pub record IsGentle (k next : Plain) : Type 0 where
   pub present : next.present ≡ k.present
   pub places : length next.threads ≡ length k.threads
   pub homes : (t : ℕ) → is_eligible k t ≡ true → (thread_at next t).home ≡ (thread_at k t).home
-  pub threads : All (IsInBounds (length k.clusters) k.present) next.threads
+  pub threads : All (IsInBounds k.scenario (length k.clusters) k.present) next.threads
   pub lines : KeepsLines k.clusters next.clusters
   pub timers : AllTimed next 0 next.clusters

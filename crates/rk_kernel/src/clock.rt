@@ -66,7 +66,7 @@ fn charge_into(out: &mut Items<Thread>, core: &Core)
     requires cpus { cpu_count (plain_of core.now) ≤ 8 }
     requires present { core.now.present ≤ 1000000 }
     requires targets { AllLead core.now.scenario.bodies }
-    requires bounds { All (IsInBounds (length core.now.clusters) core.now.present) core.now.threads }
+    requires bounds { All (IsInBounds core.now.scenario (length core.now.clusters) core.now.present) core.now.threads }
     ensures { out.new ≡ charge_from (plain_of core.now) 1 core.now.threads }
 {
     for at in 0..core.threads.len() {

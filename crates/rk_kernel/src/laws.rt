@@ -2,7 +2,7 @@
 //!
 //! Each speaks of the state after any legal history of a scenario.
 
-ghost use Rattle.rk_kernel.specs.Laws.{LinesHoldTheirOwn, ProcessorsHaveTheRunners, RunnersAreTheMostUrgent, NoneRunsTwice};
+ghost use Rattle.rk_kernel.specs.Laws.{LinesHoldTheirOwn, ProcessorsHaveTheRunners, RunnersAreTheMostUrgent, NoneRunsTwice, NoneActsAtWork};
 
 /// The line of each cluster holds exactly the eligible threads of that home, each once.
 pub fn lines_hold_their_own()
@@ -23,4 +23,10 @@ pub fn runners_are_the_most_urgent()
 /// No thread runs on two processors.
 pub fn none_runs_twice()
     ensures { NoneRunsTwice }
+{}
+
+/// A directive never acts for a line of work or a goto: a thread that has a directive and doesn't
+/// return from one is at another line, or behind the last.
+pub fn none_acts_at_work()
+    ensures { NoneActsAtWork }
 {}

@@ -54,10 +54,22 @@ cluster_taken p b o words told s h =
       left = rw rest h.after;
     }
 
+cluster_is_taken_first : (b : Scenario) (o : Body) (words : List (List ℕ)) (told : List (List (List ℕ))) (s : Scenario) → IsClusterTaken Headed b o words told s → IsTaken Headed b o words told s
+cluster_is_taken_first b o words told s c = record {
+  next = c.next;
+  taken = subst (λ (x : List (List ℕ)). after_told Headed (draft_at Headed b o) x ≡ Ok c.next) (sym c.word) c.taken;
+  left = c.left;
+}
+
+cluster_is_taken_later : (b : Scenario) (o : Body) (words : List (List ℕ)) (told : List (List (List ℕ))) (s : Scenario) → IsClusterTaken Clustered b o words told s → IsTaken Clustered b o words told s
+cluster_is_taken_later b o words told s c = record {
+  next = c.next;
+  taken = subst (λ (x : List (List ℕ)). after_told Clustered (draft_at Clustered b o) x ≡ Ok c.next) (sym c.word) c.taken;
+  left = c.left;
+}
+
 headed_taken : (b : Scenario) (o : Body) (words : List (List ℕ)) (told : List (List (List ℕ))) (s : Scenario) → ClusterLeft b (words ∷ told) s → IsTaken Headed b o words told s
-headed_taken b o words told s h =
-    let c = cluster_taken Headed b o words told s h in
-    record { next = c.next; taken = subst (λ (x : List (List ℕ)). after_told Headed (draft_at Headed b o) x ≡ Ok c.next) (sym c.word) c.taken; left = c.left }
+headed_taken b o words told s h = cluster_is_taken_first b o words told s (cluster_taken Headed b o words told s h)
 
 clustered_taken : (b : Scenario) (o : Body) (words : List (List ℕ)) (told clusters : List (List (List ℕ))) (s : Scenario) (ticks : List (List ℕ)) (rest : List (List (List ℕ))) (more : List ℕ) (horizon : ℕ)
     → words ∷ told ≡ clusters ++ ticks ∷ rest → AreClusters clusters more → length (b.clusters ++ more) ≤ 4 → cpus_in (b.clusters ++ more) ≤ 8 → IsTicks ticks horizon
@@ -76,7 +88,7 @@ clustered_taken b o words told [] s ticks rest (cpus ∷ more) horizon told_is a
 clustered_taken b o words told (cluster ∷ clusters) s ticks rest [] horizon told_is are few few_cpus ticks_are after = absurd are
 clustered_taken b o words told (cluster ∷ clusters) s ticks rest (cpus ∷ more) horizon told_is are few few_cpus ticks_are after =
     let join : b.clusters ++ cpus ∷ more ≡ (b.clusters ++ cpus ∷ []) ++ more = sym (append_assoc b.clusters (cpus ∷ []) more) in
-    let c = cluster_taken Clustered b o words told s (record {
+    cluster_is_taken_later b o words told s (cluster_taken Clustered b o words told s (record {
       cluster = cluster;
       rest = clusters ++ ticks ∷ rest;
       told_is = told_is;
@@ -95,8 +107,7 @@ clustered_taken b o words told (cluster ∷ clusters) s ticks rest (cpus ∷ mor
         ticks_are = ticks_are;
         after = subst (λ (x : List ℕ). LimitLeft (record b { clusters = x; horizon = horizon }) rest s) join after;
       };
-    }) in
-    record { next = c.next; taken = subst (λ (x : List (List ℕ)). after_told Clustered (draft_at Clustered b o) x ≡ Ok c.next) (sym c.word) c.taken; left = c.left }
+    }))
 
 -- ---- init lines
 
@@ -131,11 +142,13 @@ init_taken p b o words told s (init ∷ more) lines few whole =
       };
     }
 
-inits_taken : (b : Scenario) (o : Body) (words : List (List ℕ)) (told : List (List (List ℕ))) (s : Scenario) → InitsLeft b (words ∷ told) s → IsTaken InInits b o words told s
-inits_taken b o words told s h =
-    let i = init_taken InInits b o words told s h.more h.lines h.few h.whole in
+init_is_taken : (b : Scenario) (o : Body) (words : List (List ℕ)) (told : List (List (List ℕ))) (s : Scenario) → IsInitTaken InInits b o words told s → IsTaken InInits b o words told s
+init_is_taken b o words told s i =
     let next : Draft = draft_at InInits (record b { inits = b.inits ++ i.init ∷ [] }) o in
     record { next = next; taken = subst (λ (x : List (List ℕ)). after_told InInits (draft_at InInits b o) x ≡ Ok next) (sym i.word) i.taken; left = i.left }
+
+inits_taken : (b : Scenario) (o : Body) (words : List (List ℕ)) (told : List (List (List ℕ))) (s : Scenario) → InitsLeft b (words ∷ told) s → IsTaken InInits b o words told s
+inits_taken b o words told s h = init_is_taken b o words told s (init_taken InInits b o words told s h.more h.lines h.few h.whole)
 
 -- ---- bodies
 
@@ -149,18 +162,19 @@ record IsLimitedTaken (p : Phase) (b : Scenario) (o : Body) (words : List (List 
   taken : at_limited (draft_at p b o) (first ∷ operands) ≡ Ok next
   left : Completes next.phase next.scenario next.body told s
 
+init_is_limited : (p : Phase) (b : Scenario) (o : Body) (words : List (List ℕ)) (told : List (List (List ℕ))) (s : Scenario) → IsInitTaken p b o words told s → IsLimitedTaken p b o words told s
+init_is_limited p b o words told s i = record {
+  next = draft_at InInits (record b { inits = b.inits ++ i.init ∷ [] }) o;
+  first = codes "init";
+  operands = i.operands;
+  word = i.word;
+  no_limit = refl;
+  taken = i.taken;
+  left = i.left;
+}
+
 init_limited_taken : (p : Phase) (b : Scenario) (o : Body) (words : List (List ℕ)) (told : List (List (List ℕ))) (s : Scenario) → InitsLeft b (words ∷ told) s → IsLimitedTaken p b o words told s
-init_limited_taken p b o words told s h =
-    let i = init_taken p b o words told s h.more h.lines h.few h.whole in
-    record {
-      next = draft_at InInits (record b { inits = b.inits ++ i.init ∷ [] }) o;
-      first = codes "init";
-      operands = i.operands;
-      word = i.word;
-      no_limit = refl;
-      taken = i.taken;
-      left = i.left;
-    }
+init_limited_taken p b o words told s h = init_is_limited p b o words told s (init_taken p b o words told s h.more h.lines h.few h.whole)
 
 limited_taken : (p : Phase) (b : Scenario) (o : Body) (words : List (List ℕ)) (told bodies inits : List (List (List ℕ))) (s : Scenario) (more : List Body)
     → words ∷ told ≡ bodies ++ inits → AreBodies bodies more → length s.bodies ≤ 32 → AreDistinct s.bodies → InitsLeft (record b { bodies = b.bodies ++ more }) inits s
@@ -211,10 +225,22 @@ limited_taken p b o words told bodies inits s (body ∷ more) told_is are few di
       };
     }
 
+is_taken_later : (b : Scenario) (o : Body) (words : List (List ℕ)) (told : List (List (List ℕ))) (s : Scenario) → IsLimitedTaken Limited b o words told s → IsTaken Limited b o words told s
+is_taken_later b o words told s l = record {
+  next = l.next;
+  taken = subst (λ (x : List (List ℕ)). after_told Limited (draft_at Limited b o) x ≡ Ok l.next) (sym l.word) l.taken;
+  left = l.left;
+}
+
+is_taken_first : (b : Scenario) (o : Body) (words : List (List ℕ)) (told : List (List (List ℕ))) (s : Scenario) → IsLimitedTaken Timed b o words told s → IsTaken Timed b o words told s
+is_taken_first b o words told s l = record {
+  next = l.next;
+  taken = subst (λ (x : List (List ℕ)). after_told Timed (draft_at Timed b o) x ≡ Ok l.next) (sym l.word) (rw l.no_limit l.taken);
+  left = l.left;
+}
+
 bodies_taken : (b : Scenario) (o : Body) (words : List (List ℕ)) (told : List (List (List ℕ))) (s : Scenario) → BodiesLeft b (words ∷ told) s → IsTaken Limited b o words told s
-bodies_taken b o words told s h =
-    let l = limited_taken Limited b o words told h.bodies h.inits s h.more h.told_is h.bodies_are h.few h.distinct h.after in
-    record { next = l.next; taken = subst (λ (x : List (List ℕ)). at_limited (draft_at Limited b o) x ≡ Ok l.next) (sym l.word) l.taken; left = l.left }
+bodies_taken b o words told s h = is_taken_later b o words told s (limited_taken Limited b o words told h.bodies h.inits s h.more h.told_is h.bodies_are h.few h.distinct h.after)
 
 -- ---- the limit
 
@@ -224,8 +250,7 @@ unfolding limit_line
 timed_taken b o words told [] rest s limit told_is sets after =
     let same : BodiesLeft b rest s = subst (λ (n : ℕ). BodiesLeft (record b { limit = n }) rest s) sets after in
     let h : BodiesLeft b (words ∷ told) s = subst (λ (x : List (List (List ℕ))). BodiesLeft b x s) (sym told_is) same in
-    let l = limited_taken Timed b o words told h.bodies h.inits s h.more h.told_is h.bodies_are h.few h.distinct h.after in
-    record { next = l.next; taken = subst (λ (x : List (List ℕ)). after_told Timed (draft_at Timed b o) x ≡ Ok l.next) (sym l.word) (rw l.no_limit l.taken); left = l.left }
+    is_taken_first b o words told s (limited_taken Timed b o words told h.bodies h.inits s h.more h.told_is h.bodies_are h.few h.distinct h.after)
 timed_taken b o words told (line ∷ []) rest s limit told_is sets after =
     let word : words ≡ codes "limit" ∷ sets.0 ∷ [] = cc (told_is, sets.1) in
     let is : told ≡ rest = cc told_is in
