@@ -7,13 +7,8 @@ use Rattle.rk_model.specs.declared.scenario.Op.TheVariants.{Work, Goto, TaskCrea
 use Rattle.rk_model.specs.declared.scenario.Body.{Body}
 use Rattle.rk_model.specs.declared.scenario.Init.{Init}
 use Rattle.rk_model.specs.declared.scenario.Scenario.{Scenario}
-<<<<<<< HEAD
 use Rattle.rk_model.specs.Scenarios.{IsScenario, Known, with_earlier, IsOp, AreOps, AreBodies, AreInits, IsLimit, may_be_target, is_target}
-use Rattle.rk_model.specs.Limits.{LeadsWithin, IsWithinLimits}
-=======
-use Rattle.rk_model.specs.Scenarios.{IsScenario, IsOp, AreOps, AreBodies, AreInits, IsLimit, may_be_target, is_target}
 use Rattle.rk_model.specs.Limits.{LeadsWithin, GoesOn, IsWithinLimits}
->>>>>>> b3edc8285d1dff76c90f551daca8b27c07aa604d
 
 short_bodies : (front : List Body) (told : List (List (List ℕ))) (bodies : List Body) → AreBodies front told bodies → AllByRecursion (λ (body : Body). length body.lines ≤ 1000) bodies
 short_bodies front told [] are = tt
@@ -66,26 +61,32 @@ target_in : (earlier more : List Op) (n : ℕ) → is_target earlier n ≡ true 
 target_in earlier more zero is = absurd (false≢true is)
 target_in earlier more (suc i) is = stands_in earlier more i is
 
-goes_on : (earlier more : List Op) (words : List (List ℕ)) (op : Op) → IsOp earlier words op → GoesOn (earlier ++ more) op
-goes_on earlier more words (Work n) is = is.2.low
-goes_on earlier more words (Goto target) is = target_in earlier more target is.3
-goes_on earlier more words (TaskSuspend id) is = tt
-goes_on earlier more words (TaskResume id) is = tt
-goes_on earlier more words (TaskWakeAfter n) is = tt
+goes_on : (known : Known) (more : List Op) (words : List (List ℕ)) (op : Op) → IsOp known words op → GoesOn (known.earlier ++ more) op
+goes_on known more words (Work n) is = is.2.low
+goes_on known more words (Goto target) is = target_in known.earlier more target is.3
+goes_on known more words (TaskCreate name prio var) is = tt
+goes_on known more words (TaskIdent name var) is = tt
+goes_on known more words (TaskStart id body) is = tt
+goes_on known more words (TaskSuspend id) is = tt
+goes_on known more words (TaskResume id) is = tt
+goes_on known more words (TaskSetPriority id prio var) is = tt
+goes_on known more words (TaskDelete id) is = tt
+goes_on known more words (TaskWakeAfter n) is = tt
 
 -- the ops behind the earlier lines of a body
-go_on_from : (all earlier : List Op) (told : List (List (List ℕ))) (ops : List Op) → earlier ++ ops ≡ all → AreOps earlier told ops → AllByRecursion (GoesOn all) ops
-go_on_from all earlier [] [] e are = tt
-go_on_from all earlier [] (op ∷ ops) e are = absurd are
-go_on_from all earlier (words ∷ told) [] e are = absurd are
-go_on_from all earlier (words ∷ told) (op ∷ ops) e are = (
-  subst (λ (lines : List Op). GoesOn lines op) e (goes_on earlier (op ∷ ops) words op are.0),
-  go_on_from all (earlier ++ op ∷ []) told ops (append_assoc earlier (op ∷ []) ops ∙ e) are.1,
+go_on_from : (all : List Op) (known : Known) (told : List (List (List ℕ))) (ops : List Op) → known.earlier ++ ops ≡ all → AreOps known told ops → AllByRecursion (GoesOn all) ops
+go_on_from all known [] [] e are = tt
+go_on_from all known [] (op ∷ ops) e are = absurd are
+go_on_from all known (words ∷ told) [] e are = absurd are
+go_on_from all known (words ∷ told) (op ∷ ops) e are = (
+  subst (λ (lines : List Op). GoesOn lines op) e (goes_on known (op ∷ ops) words op are.0),
+  go_on_from all (with_earlier known op) told ops (append_assoc known.earlier (op ∷ []) ops ∙ e) are.1,
 )
 
-ops_of : (told : List (List (List ℕ))) (bodies : List Body) → AreBodies told bodies → AllByRecursion (λ (body : Body). AllByRecursion (GoesOn body.lines) body.lines) bodies
-ops_of told [] are = tt
-ops_of told (body ∷ bodies) are = (go_on_from body.lines [] are.3.inner body.lines refl are.3.ops, ops_of are.1 bodies are.4)
+ops_of : (front : List Body) (told : List (List (List ℕ))) (bodies : List Body) → AreBodies front told bodies → AllByRecursion (λ (body : Body). AllByRecursion (GoesOn body.lines) body.lines) bodies
+ops_of front told [] are = tt
+ops_of front told (body ∷ bodies) are =
+    (go_on_from body.lines (record { bodies = front; own = body.name; earlier = [] }) are.3.inner body.lines refl are.3.ops, ops_of (front ++ body ∷ []) are.1 bodies are.4)
 
 near_homes : (s : Scenario) (told : List (List (List ℕ))) (inits : List Init) → AreInits s told inits → AllByRecursion (λ (init : Init). init.cluster < length s.clusters) inits
 near_homes s [] [] are = tt
@@ -110,14 +111,9 @@ limits_of s is =
       some_limit = limit.0;
       limit = limit.1;
       few_bodies = lines.few_bodies;
-<<<<<<< HEAD
       bodies = short_bodies [] lines.bodies s.bodies lines.bodies_are;
       targets = targets_of [] lines.bodies s.bodies lines.bodies_are;
-=======
-      bodies = short_bodies lines.bodies s.bodies lines.bodies_are;
-      targets = targets_of lines.bodies s.bodies lines.bodies_are;
-      ops = ops_of lines.bodies s.bodies lines.bodies_are;
->>>>>>> b3edc8285d1dff76c90f551daca8b27c07aa604d
+      ops = ops_of [] lines.bodies s.bodies lines.bodies_are;
       few_inits = lines.few_inits;
       homes = near_homes s lines.inits s.inits lines.inits_are;
     }

@@ -25,8 +25,13 @@ LeadsWithin (TaskWakeAfter n) = Unit {0}
 abbrev pub GoesOn : List Op → Op → Type 0
 GoesOn lines (Work n) = 1 ≤ n
 GoesOn lines (Goto target) = is_target lines target ≡ true
+GoesOn lines (TaskCreate name prio var) = Unit {0}
+GoesOn lines (TaskIdent name var) = Unit {0}
+GoesOn lines (TaskStart id body) = Unit {0}
 GoesOn lines (TaskSuspend id) = Unit {0}
 GoesOn lines (TaskResume id) = Unit {0}
+GoesOn lines (TaskSetPriority id prio var) = Unit {0}
+GoesOn lines (TaskDelete id) = Unit {0}
 GoesOn lines (TaskWakeAfter n) = Unit {0}
 
 -- What the rest of the kernel relies on: the least and the greatest numbers of things.
