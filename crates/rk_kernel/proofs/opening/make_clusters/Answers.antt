@@ -1,4 +1,4 @@
-use Rattle.std.proofs.Common.{◌≡◌, ◌+◌, ◌<◌, ◌≤◌, arith, length, Fits}
+use Rattle.std.proofs.Common.{arith}
 use Rattle.rk_kernel.proofs.Openings.{first_within, first_more, made_more}
 use Rattle.rk_kernel.proofs.opening.make_clusters.Goals as goal
 
