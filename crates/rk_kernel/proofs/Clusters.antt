@@ -1,6 +1,5 @@
 -- Clusters settle, step by step.
-use Rattle.std.proofs.Common.{◌≡◌, ℕ, ◌+◌, ◌<◌, List, [], ◌∷◌, ◌++◌, Option, length, map, not, take, drop, get_or, set, refl, ap, sym, arith, ◌∙◌, append_assoc}
-use Rattle.std.specs.List.{filter}
+use Rattle.std.proofs.Common.{◌≡◌, ℕ, ◌+◌, ◌<◌, List, [], ◌∷◌, ◌++◌, length, take, drop, get_or, set, ap, sym, arith, ◌∙◌, append_assoc}
 use Rattle.std.proofs.lemmas.List.{drop_more, take_more_set, drop-set-lt, map_push}
 use Rattle.rk_model.specs.declared.settling.Move.{Move}
 use Rattle.rk_model.specs.declared.state.Thread.{Thread}

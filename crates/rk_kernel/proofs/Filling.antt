@@ -1,5 +1,5 @@
 -- A register of a cluster as it is written, one thread after another.
-use Rattle.std.proofs.Common.{◌≡◌, ℕ, zero, suc, ◌+◌, ◌<◌, ◌≤◌, List, Bool, true, false, cond, ◌==◌, nat_le, nat_lt, Option, Some, None, length, ⊎_elim, arith, refl, ap, sym, ◌∙◌}
+use Rattle.std.proofs.Common.{◌≡◌, ℕ, zero, suc, ◌+◌, ◌<◌, List, Bool, true, false, cond, ◌==◌, nat_le, Option, Some, None, length, ⊎_elim, arith, refl, ap, sym, ◌∙◌}
 use Rattle.std.proofs.lemmas.List.{get_or_past}
 use Rattle.std.proofs.lemmas.Bool.{cases_lt}
 use Rattle.std.proofs.lemmas.Bool.Decides.{nat_tests}
@@ -10,7 +10,7 @@ use Rattle.rk_model.specs.State.{no_thread}
 use Rattle.rk_model.specs.Priorities.{no_standing, nth_standing}
 use Rattle.rk_model.specs.Settling.{moves, move_of}
 use Rattle.rk_cluster.specs.declared.moves.Change.{Change}
-use Rattle.rk_cluster.specs.Registers.{change_at, no_changes, with_change}
+use Rattle.rk_cluster.specs.Registers.{with_change}
 use Rattle.rk_kernel.specs.Registers.{change_by, register}
 
 -- the register of a cluster as far as the thread n
@@ -77,3 +77,8 @@ filled_whole before now last ts c out b n told =
     (λ h. let within : nat_le t 64 ≡ true = grind (arith, nat_tests, h) in rw within refl)
     (cases_lt 64 t) in
     λ i t. same t i
+
+-- as far as the last of 64 threads
+pub at_end : (before now : List Standing) (last : List ℕ) (ts : List Thread) (c n : ℕ) (out : ℕ → Option Change) → n ≡ 64 →
+    ((t : ℕ) → out t ≡ filled_up_to n before now last ts c t) → (t : ℕ) → out t ≡ filled_up_to 64 before now last ts c t
+at_end before now last ts c n out e told t = told t ∙ ap (λ m. filled_up_to m before now last ts c t) e

@@ -1,9 +1,8 @@
 -- Lines whose places have the priorities that a function gives.
-use Rattle.std.proofs.Common.{◌≡◌, ℕ, zero, suc, ◌+◌, List, [], ◌∷◌, ◌++◌, Bool, true, false, cond, ◌==◌, ◌||◌, Option, Some, None, map, arith, refl, ap, sym, ◌∙◌, append_assoc}
-use Rattle.std.specs.Option.{option_to_list}
+use Rattle.std.proofs.Common.{◌≡◌, ℕ, zero, suc, ◌+◌, List, [], ◌∷◌, ◌++◌, Bool, true, false, cond, ◌==◌, ◌||◌, map, arith, refl, ap, sym, ◌∙◌, append_assoc}
 use Rattle.std.proofs.lemmas.Bool.Decides.{nat_tests}
 use Rattle.rk_model.specs.Lists.{has}
-use Rattle.rk_model.specs.Lines.{rank, ranked_from, nth_urgent, most_urgent}
+use Rattle.rk_model.specs.Lines.{rank, ranked_from, most_urgent}
 use Rattle.rk_line.specs.declared.line.Place.{Place}
 use Rattle.rk_line.specs.Places.{threads, prio_in}
 use Rattle.rk_line.proofs.Sorting.{upto, under, rank_counts}

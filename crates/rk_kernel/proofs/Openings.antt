@@ -1,5 +1,5 @@
 -- The opening state is sound: it is the state with no task yet, changed gently and settled.
-use Rattle.std.proofs.Common.{◌≡◌, ℕ, zero, suc, ◌+◌, ◌<◌, ◌≤◌, List, [], ◌∷◌, false, cond, ◌==◌, Option, None, length, get_or, length-append, length-take, ◌++◌, take, map, replicate, arith, refl, ap, sym, ◌∙◌}
+use Rattle.std.proofs.Common.{◌≡◌, add-one, ℕ, zero, suc, ◌+◌, ◌<◌, ◌≤◌, List, [], ◌∷◌, false, cond, ◌==◌, Option, None, length, get_or, length-append, length-take, ◌++◌, take, map, replicate, arith, refl, ap, sym, ◌∙◌}
 use Rattle.std.specs.List.{AllByRecursion, range_with_len, slice_set}
 use Rattle.std.proofs.lemmas.List.{length-replicate, length-map, map-append, take_more}
 use Rattle.std.proofs.lemmas.List.Elements.{All-from_recursion}
@@ -8,6 +8,8 @@ use Rattle.rk_model.specs.declared.scenario.Scenario.{Scenario}
 use Rattle.rk_model.specs.declared.scenario.Init.{Init}
 use Rattle.rk_model.specs.declared.state.Life.TheVariants.{Started}
 use Rattle.rk_model.specs.declared.state.Thread.{Thread}
+use Rattle.rk_kernel.specs.declared.core_state.ClusterPart.{ClusterPart}
+use Rattle.rk_kernel.specs.Pieces.{cluster_of, clusters_of}
 use Rattle.rk_model.specs.Lists.{nth, times}
 use Rattle.rk_model.specs.State.{Plain, no_thread, thread_at}
 use Rattle.rk_model.specs.Priorities.{is_eligible}
@@ -151,3 +153,22 @@ started_more s threads threads' thread init at within few is made set told =
     let more : map (begun s) (take (at + 1) s.inits) ≡ front ++ begun s init ∷ [] =
     ap (map (begun s)) (take_more s.inits at init within) ∙ map-append (begun s) (take at s.inits) (get_or s.inits at init ∷ []) ∙ ap (λ x. front ++ begun s x ∷ []) (sym is) in
     set ∙ ap (λ ts. slice_set ts at thread) told ∙ ap (slice_set (places 64 front) at) made ∙ places-push 64 front (begun s init) at size (omega arith) ∙ ap (places 64) (sym more)
+
+-- the processors of the clusters in front of one and its own are at most those of all
+pub first_within : (counts : List ℕ) (i : ℕ) → i < length counts → cpus_in (take i counts) + get_or counts i 0 ≤ cpus_in counts
+first_within [] i within = absurd (omega arith)
+first_within (m ∷ counts) zero within = omega arith
+first_within (m ∷ counts) (suc i) within = omega (arith, first_within counts i (omega arith))
+
+pub first_more : (counts : List ℕ) (i first : ℕ) → i < length counts → first ≡ cpus_in (take i counts) → first + get_or counts i 0 ≡ cpus_in (take (i + 1) counts)
+first_more counts i first within is = rw (add-one, is) (by counts i within) where
+  by : (counts : List ℕ) (i : ℕ) → i < length counts → cpus_in (take i counts) + get_or counts i 0 ≡ cpus_in (take (suc i) counts)
+  by [] i within = absurd (omega arith)
+  by (m ∷ counts) zero within = omega arith
+  by (m ∷ counts) (suc i) within = omega (arith, by counts i (omega arith))
+
+-- one cluster more is made
+pub made_more : (counts : List ℕ) (i : ℕ) (parts next : List ClusterPart) (part : ClusterPart) → i < length counts → next ≡ parts ++ part ∷ [] → cluster_of part ≡ free_cluster (get_or counts i 0) → clusters_of parts ≡ map free_cluster (take i counts) → clusters_of next ≡ map free_cluster (take (i + 1) counts)
+made_more counts i parts next part within push is told =
+    let more : take (i + 1) counts ≡ take i counts ++ get_or counts i 0 ∷ [] = take_more counts i 0 within in
+    ap (λ (ps : List ClusterPart). clusters_of ps) push ∙ map-append cluster_of parts (part ∷ []) ∙ (rw (told, is) refl) ∙ sym (ap (map free_cluster) more ∙ map-append free_cluster (take i counts) (get_or counts i 0 ∷ []))

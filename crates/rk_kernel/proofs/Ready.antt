@@ -4,7 +4,7 @@ use Rattle.std.proofs.lemmas.List.{length-map}
 use Rattle.rk_model.specs.declared.settling.Standing.{Standing}
 use Rattle.rk_model.specs.State.{Plain}
 use Rattle.rk_model.specs.Priorities.{standings}
-use Rattle.rk_model.specs.Settling.{moves, settle, settle_by}
+use Rattle.rk_model.specs.Settling.{settle, settle_by}
 use Rattle.rk_kernel.specs.declared.core_state.Core.{Core}
 use Rattle.rk_kernel.specs.Pieces.{cluster_of, clusters_of, plain_of}
 use Rattle.rk_kernel.specs.Settleable.{AllSettleable}

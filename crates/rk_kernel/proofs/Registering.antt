@@ -1,9 +1,7 @@
 -- A cluster that settles by its register settles as the definitions say.
-use Rattle.std.proofs.Common.{◌≡◌, ℕ, zero, suc, ◌+◌, ◌<◌, ◌≤◌, List, [], ◌∷◌, ◌++◌, Bool, true, false, cond, not, ◌==◌, ◌&&◌, ◌||◌, nat_le, nat_lt, Option, Some, None, length, map, arith, refl, ap, sym, subst, ◌∙◌}
+use Rattle.std.proofs.Common.{◌≡◌, ℕ, zero, suc, ◌+◌, List, [], ◌∷◌, ◌++◌, Bool, true, false, cond, ◌==◌, ◌&&◌, Option, None, length, refl, ap, sym, ◌∙◌}
 use Rattle.std.specs.List.{filter, range_with_len}
-use Rattle.std.proofs.lemmas.List.{map-append}
 use Rattle.std.proofs.lemmas.Bool.{false≢true}
-use Rattle.std.proofs.lemmas.Bool.Decides.{nat_tests}
 use Rattle.rk_model.specs.declared.settling.Standing.{Standing}
 use Rattle.rk_model.specs.declared.settling.Move.{Move}
 use Rattle.rk_model.specs.declared.settling.Move.TheVariants as asked
@@ -13,11 +11,9 @@ use Rattle.rk_model.specs.Lists.{has, nth}
 use Rattle.rk_model.specs.State.{ClusterState, no_thread}
 use Rattle.rk_model.specs.Priorities.{nth_standing}
 use Rattle.rk_model.specs.Lines.{most_urgent, assigned}
-use Rattle.rk_model.specs.Settling.{move_of, moves, is_stay, is_to_end, is_to_front, makes, making, moved, key_of, settled_cluster}
+use Rattle.rk_model.specs.Settling.{moves, is_stay, is_to_end, is_to_front, makes, making, moved, key_of, settled_cluster}
 use Rattle.rk_line.specs.declared.line.Place.{Place}
 use Rattle.rk_line.specs.Places.{threads, prio_in}
-use Rattle.rk_cluster.specs.declared.moves.Change.{Change}
-use Rattle.rk_cluster.specs.declared.moves.Change.TheVariants.{Leave, ToEnd, ToFront, Stay}
 use Rattle.rk_cluster.specs.Registers.{front_place, end_place, kept_place, fronts_from, ends_from, kept_places, fronts, ends, moved as register_moved}
 use Rattle.rk_cluster.specs.Clusters.{settled}
 use Rattle.rk_cluster.specs.Clusters as clusters

@@ -29,11 +29,9 @@ fn charge_thread(scenario: &Scenario, thread: Thread) -> Thread
     if thread.left == 0 {
         thread
     } else if thread.left == 1 {
+        let computed = thread.computed + 1;
         let next = arrive(scenario, thread, thread.line + 1);
-        Thread {
-            computed: thread.computed + 1,
-            ..next
-        }
+        Thread { computed, ..next }
     } else {
         Thread {
             left: thread.left - 1,

@@ -50,12 +50,7 @@ fn copy_scenario(alloc: Global, scenario: &Scenario) -> Result<Scenario, NoMemor
 }
 
 /// A cluster of so many processors, none of which has a thread.
-fn make_cluster(
-    alloc: Global,
-    number: u8,
-    first: u8,
-    count: u8,
-) -> Result<ClusterPart, NoMemory>
+fn make_cluster(alloc: Global, number: u8, first: u8, count: u8) -> Result<ClusterPart, NoMemory>
     requires number { number < 4 }
     requires cpus { first + count ≤ 8 }
     ensures { IfOk result (λ part. cluster_of part ≡ free_cluster count) }

@@ -60,13 +60,7 @@ fn change_for(stood: bool, asked: Move, prio: Prio) -> Option<Change>
         Move::Stay => Some(Change::Stay(prio)),
         Move::ToEnd => Some(Change::ToEnd(prio)),
         Move::ToFront => Some(Change::ToFront(prio)),
-        Move::Leave => {
-            if stood {
-                Some(Change::Leave)
-            } else {
-                None
-            }
-        }
+        Move::Leave => { if stood { Some(Change::Leave) } else { None } }
     }
 }
 

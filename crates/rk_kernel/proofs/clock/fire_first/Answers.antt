@@ -8,7 +8,7 @@ use Rattle.rk_kernel.specs.Firing.{due_now}
 use Rattle.rk_kernel.specs.Pieces.{plain_of, cluster_of}
 use Rattle.rk_kernel.specs.Sound.{IsSound}
 use Rattle.rk_kernel.proofs.Firings.{unchanged, fires_none, fires_some, head_some, rest_of, expired, expire_gentle}
-use Rattle.rk_kernel.proofs.Ready.{ready, settled_next, settled_sound, settled_count, noted_length}
+use Rattle.rk_kernel.proofs.Ready.{ready, settled_next, settled_sound, settled_count}
 use Rattle.rk_kernel.proofs.clock.fire_first.Goals as goal
 
 pub settle_core-requires : goal.settle_core-requires

@@ -1,10 +1,10 @@
-use Rattle.std.proofs.Common.{List, [], length, ap, sym, ◌∙◌}
+use Rattle.std.proofs.Common.{List, [], length, ap, ◌∙◌}
 use Rattle.rk_model.specs.declared.state.Thread.{Thread}
 use Rattle.rk_model.specs.State.{Plain}
 use Rattle.rk_model.specs.Priorities.{standings}
 use Rattle.rk_model.specs.Histories.{vacant, started}
 use Rattle.rk_kernel.proofs.Openings.{sound_vacant, gentle_started}
-use Rattle.rk_kernel.proofs.Ready.{ready, settled_next, settled_sound, noted_length}
+use Rattle.rk_kernel.proofs.Ready.{ready, settled_next, settled_sound}
 use Rattle.rk_kernel.proofs.opening.make_opening.Goals as goal
 
 pub settle_core-requires : goal.settle_core-requires

@@ -28,4 +28,5 @@ loop-at-preserved c =
     }
 
 pub settle_cluster-requires-clause-lines : goal.settle_cluster-requires-clause-lines
-settle_cluster-requires-clause-lines c = rw ← c.loop-at.invariant.before at (part_settleable c.args.scratch.now.before c.args.threads.now c.loop-at.clusters c.loop-at.at c.at_mut.result.now (omega arith) c.at_mut.ensures.value c.loop-at.invariant.lines)
+settle_cluster-requires-clause-lines c =
+    rw c.loop-at.invariant.before (part_settleable c.args.scratch.now.before c.args.threads.now c.loop-at.clusters c.loop-at.at c.at_mut.result.now (omega arith) c.at_mut.ensures.value c.loop-at.invariant.lines)

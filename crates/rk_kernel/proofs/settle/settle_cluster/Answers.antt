@@ -1,6 +1,5 @@
-use Rattle.std.proofs.Common.{◌≡◌, ap, ◌∙◌}
+use Rattle.std.proofs.Common.{ap, ◌∙◌}
 use Rattle.rk_cluster.specs.Clusters.{settled}
-use Rattle.rk_kernel.specs.Registers.{register}
 use Rattle.rk_kernel.proofs.Registering.{settled_by_register, all_stood}
 use Rattle.rk_kernel.proofs.settle.settle_cluster.Goals as goal
 

@@ -1,4 +1,4 @@
-use Rattle.std.proofs.Common.{rules, ap, ◌≡◌, length, arith, sym, ◌∙◌}
+use Rattle.std.proofs.Common.{rules, ap, ◌≡◌, length, arith, ◌∙◌}
 use Rattle.rk_model.specs.State.{Plain, thread_at}
 use Rattle.rk_model.specs.Steps.{action}
 use Rattle.rk_kernel.specs.Pieces.{plain_of}
@@ -8,7 +8,7 @@ use Rattle.std.proofs.Common.{Some, ℕ}
 use Rattle.rk_kernel.proofs.Bounds.{bounds_at}
 use Rattle.rk_kernel.proofs.Callers.{caller_waits_not, caller_works_not, caller_within}
 use Rattle.rk_kernel.proofs.Sleeping.{room_for_timer, action_gentle}
-use Rattle.rk_kernel.proofs.Ready.{ready, settled_next, settled_sound, noted_length}
+use Rattle.rk_kernel.proofs.Ready.{ready, settled_next, settled_sound}
 use Rattle.rk_kernel.proofs.steps.act_by.Goals as goal
 
 gentle : (k : Plain) (p t : ℕ) → IsSound k → caller k p ≡ Some t → IsGentle k (action k t).next
