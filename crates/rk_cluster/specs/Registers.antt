@@ -1,8 +1,7 @@
 -- Registers of changes, and what they do to a line.
-use Rattle.std.specs.Prelude.{ℕ, zero, suc, ◌+◌, ◌≡◌, List, [], ◌∷◌, ◌++◌, Bool, true, false, Option, Some, None, ◌==◌, if◌then◌else◌}
-use Rattle.rk_model.specs.Lists.{has, nth}
+use Rattle.std.specs.Prelude.{ℕ, zero, suc, ◌+◌, List, [], ◌∷◌, ◌++◌, Option, Some, None, ◌==◌, if◌then◌else◌}
+use Rattle.rk_model.specs.Lists.{nth}
 use Rattle.rk_line.specs.declared.line.Place.{Place}
-use Rattle.rk_line.specs.Places.{threads}
 use Rattle.rk_cluster.specs.declared.moves.Change.{Change}
 use Rattle.rk_cluster.specs.declared.moves.Change.TheVariants.{Leave, ToEnd, ToFront, Stay}
 
@@ -52,6 +51,14 @@ abbrev pub ends_from : (ℕ → Option Change) → ℕ → ℕ → List Place
 ends_from changes t zero = []
 ends_from changes t (suc n) = end_place t (changes t) ++ ends_from changes (t + 1) n
 
+-- the places at the front of all threads
+unfoldable pub fronts : (ℕ → Option Change) → List Place
+fronts changes = fronts_from changes 1 64
+
+-- the places at the end of all threads
+unfoldable pub ends : (ℕ → Option Change) → List Place
+ends changes = ends_from changes 1 64
+
 -- what stays of a line, in its order
 abbrev pub kept_places : (ℕ → Option Change) → List Place → List Place
 kept_places changes [] = []
@@ -59,16 +66,4 @@ kept_places changes (place ∷ line) = kept_place place (changes place.thread) +
 
 -- The line after the changes: those that go to the front, the least index first; those that stay, in their order; and those that go to the end, in rising index.
 abbrev pub moved : (ℕ → Option Change) → List Place → List Place
-moved changes line = fronts_from changes 1 64 ++ kept_places changes line ++ ends_from changes 1 64
-
--- whether a change is of a thread that is in the line
-abbrev pub names_one_in_line : Option Change → Bool
-names_one_in_line None = false
-names_one_in_line (Some Leave) = true
-names_one_in_line (Some (ToEnd p)) = false
-names_one_in_line (Some (ToFront p)) = true
-names_one_in_line (Some (Stay p)) = true
-
--- Leave, ToFront and Stay name threads of the line.
-abbrev pub CanSettle : (ℕ → Option Change) → List Place → Type 0
-CanSettle changes line = (t : ℕ) → names_one_in_line (changes t) ≡ true → has (threads line) t ≡ true
+moved changes line = fronts changes ++ kept_places changes line ++ ends changes

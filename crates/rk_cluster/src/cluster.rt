@@ -1,9 +1,10 @@
 ghost use Rattle.std.specs.Prelude.{◌≡◌, ◌+◌, ◌-◌, ◌<◌, ◌≤◌, [], None, IfOk, length};
 ghost use Rattle.std.specs.List.{slice_index_or};
 ghost use Rattle.rk_model.specs.Lines.{has_cpu};
-ghost use Rattle.rk_cluster.specs.Registers.{CanSettle};
+ghost use Rattle.rk_cluster.specs.Registers.{change_at};
 ghost use Rattle.rk_cluster.specs.Clusters.{empty_cluster, settled};
 
+use crate::assign::{Few, assign, is_on_cpu};
 use crate::moves::Moves;
 use rk_line::Line;
 use rk_model::{Bounded, Items, NoMemory, ThreadIx};
@@ -19,12 +20,14 @@ pub struct Cluster {
     line: Line,
     cpus: Items<Option<ThreadIx>>,
     /// Room for the runners, as they are found.
-    running: Bounded<ThreadIx, 8>,
+    running: Few,
+    /// Room for those of them that no processor has.
+    fresh: Few,
 }
 
 impl Model for Cluster {
     ghost use Rattle.rk_cluster.specs.Clusters.{Cluster as ClusterView};
-    ghost use Rattle.std.specs.Prelude.{◌+◌, ◌<◌, ◌≤◌, ◌×◌, length};
+    ghost use Rattle.std.specs.Prelude.{◌+◌, ◌<◌, ◌≤◌, length};
 
     ghost Value = { ClusterView };
 
@@ -45,15 +48,30 @@ impl Cluster {
         requires cpus { first + cpus ≤ 8 }
         ensures { IfOk result (λ c. c ≡ empty_cluster number first cpus) }
     {
-        unreachable!()
+        let free = vec![in alloc; None; cpus as usize]?;
+        Ok(Cluster {
+            number,
+            first,
+            line: Line::new(alloc)?,
+            cpus: Items::from_vec(free),
+            running: Bounded::new(alloc)?,
+            fresh: Bounded::new(alloc)?,
+        })
     }
 
-    /// Applies the changes to the line, and assigns the processors by it. It takes no memory.
+    /// Applies the changes to the line, and assigns the processors by it. A runner that had a
+    /// processor keeps it; the others, the most urgent first, take the free processors in rising
+    /// number. It takes no memory.
     pub fn settle(&mut self, moves: &Moves)
-        requires { CanSettle moves.now self.old.line }
-        ensures { self.new ≡ settled moves.now self.old }
+        ensures { self.new ≡ settled (change_at moves.now) self.old }
     {
-        unreachable!()
+        moves.apply(&mut self.line);
+        assign(
+            &mut self.cpus,
+            &self.line,
+            &mut self.running,
+            &mut self.fresh,
+        );
     }
 
     /// The thread of a processor, whose number is among those of all clusters. `None` exactly where
@@ -63,14 +81,14 @@ impl Cluster {
         requires high { cpu < self.now.first + length self.now.cpus }
         ensures { result ≡ slice_index_or self.now.cpus (cpu - self.now.first) None }
     {
-        unreachable!()
+        self.cpus.at((cpu - self.first) as usize)
     }
 
     /// Whether a processor of the cluster has the thread.
     pub fn is_runner(&self, thread: ThreadIx) -> bool
         ensures { result ≡ has_cpu self.now.cpus thread }
     {
-        unreachable!()
+        is_on_cpu(self.cpus.as_slice(), thread)
     }
 
     /// How many processors the cluster has, at most 8.
@@ -78,12 +96,13 @@ impl Cluster {
         ensures count { result ≡ length self.now.cpus }
         ensures few { result ≤ 8 }
     {
-        unreachable!()
+        self.cpus.len() as u8
     }
 
-    /// The number of its first processor among those of all clusters.
+    /// The number of its first processor among those of all clusters, of which there are at most 8.
     pub fn first(&self) -> u8
-        ensures { result ≡ self.now.first }
+        ensures value { result ≡ self.now.first }
+        ensures few { result + length self.now.cpus ≤ 8 }
     {
         self.first
     }

@@ -1,6 +1,7 @@
 //! A cluster: its line and the threads of its processors, and how they settle after a change.
 #![tactic(auto)]
 
+mod assign;
 mod cluster;
 mod moves;
 #[cfg(test)]

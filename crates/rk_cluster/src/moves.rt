@@ -1,6 +1,9 @@
-ghost use Rattle.std.specs.Prelude.{◌≡◌, IfOk, Some, None};
-ghost use Rattle.rk_cluster.specs.Registers.{no_changes, with_change};
+ghost use Rattle.std.specs.Prelude.{◌≡◌, ◌++◌, IfOk, length, replicate, None};
+ghost use Rattle.rk_line.specs.Places.{without, with_prio};
+ghost use Rattle.rk_cluster.specs.Registers.{change_at, no_changes, with_change, end_place, fronts, ends, kept_places, moved};
+ghost use Rattle.rk_cluster.specs.Passes.{changed_but_end, IsOut, EndsAreOut};
 
+use rk_line::Line;
 use rk_model::{Items, NoMemory, Prio, ThreadIx};
 use std::alloc::Global;
 use std::marker::Model;
@@ -8,32 +11,98 @@ use std::marker::Model;
 /// What settling does to a thread of a cluster.
 #[derive(Clone, Copy, Debug, PartialEq, Eq)]
 pub enum Change {
-    /// It leaves the line.
+    /// It leaves the line, where it is in it.
     Leave,
     /// It goes to the end of the line, with this priority, or comes there anew.
     ToEnd(Prio),
-    /// It goes to the front of the line, with this priority.
+    /// It goes to the front of the line, with this priority, or comes there anew.
     ToFront(Prio),
-    /// It keeps its place in the line, with this priority.
+    /// It keeps its place in the line, where it has one, with this priority.
     Stay(Prio),
 }
 
-/// A register of at most one change for each thread. Contracts see the change of each thread.
+/// A register of at most one change for each thread. Contracts see the list of the changes, and
+/// speak of it by `change_at`, the change of each thread.
 #[derive(Debug, Drop)]
 pub struct Moves {
     changes: Items<Option<Change>>,
 }
 
 impl Model for Moves {
-    ghost use Rattle.std.specs.Prelude.{ℕ, Option, ◌≡◌, length};
+    ghost use Rattle.std.specs.Prelude.{List, Option, ◌≡◌, length};
     ghost use Rattle.rk_cluster.specs.declared.moves.Change.{Change};
-    ghost use Rattle.rk_cluster.specs.Registers.{change_at};
 
-    ghost Value = { ℕ → Option Change };
+    ghost Value = { List (Option Change) };
 
-    ghost view = { λ m. change_at m.changes };
+    ghost view = { λ m. m.changes };
 
     ghost invariant = { λ m. length m.changes ≡ 64 };
+}
+
+/// Takes a thread out of a line, where it stands there.
+fn take_out(line: &mut Line, thread: ThreadIx)
+    ensures { line.new ≡ without thread line.old }
+{
+    if line.contains(thread) {
+        line.remove(thread);
+    }
+}
+
+/// Gives a thread another priority at its place in a line, where it stands there.
+fn change_in(line: &mut Line, thread: ThreadIx, prio: Prio)
+    ensures { line.new ≡ with_prio thread prio line.old }
+{
+    if line.contains(thread) {
+        line.change(thread, prio);
+    }
+}
+
+/// Applies one thread's change to a line. A thread that goes to the end is taken out.
+fn apply_but_end(line: &mut Line, thread: ThreadIx, change: Option<Change>)
+    ensures { line.new ≡ changed_but_end thread change line.old }
+{
+    let Some(change) = change else { return };
+    match change {
+        Change::Leave | Change::ToEnd(_) => take_out(line, thread),
+        Change::ToFront(prio) => {
+            take_out(line, thread);
+            line.prepend(thread, prio);
+        }
+        Change::Stay(prio) => change_in(line, thread, prio),
+    }
+}
+
+/// Applies the changes of all threads to a line. The threads that go to the end are taken out.
+fn apply_but_ends(changes: &[Option<Change>], line: &mut Line)
+    requires { length changes.now ≡ 64 }
+    ensures { line.new ≡ fronts (change_at changes.now) ++ kept_places (change_at changes.now) line.old }
+{
+    for rest in 0..64u8 {
+        let thread = ThreadIx::new(64 - rest);
+        apply_but_end(line, thread, changes[thread.at() as usize - 1]);
+    }
+}
+
+/// Puts a thread that goes to the end of a line there.
+fn append_end(line: &mut Line, thread: ThreadIx, change: Option<Change>)
+    requires { IsOut thread change line.old }
+    ensures { line.new ≡ line.old ++ end_place thread change }
+{
+    let Some(change) = change else { return };
+    if let Change::ToEnd(prio) = change {
+        line.append(thread, prio);
+    }
+}
+
+/// Puts the threads that go to the end of a line there, in rising index.
+fn append_ends(changes: &[Option<Change>], line: &mut Line)
+    requires size { length changes.now ≡ 64 }
+    requires out { EndsAreOut (change_at changes.now) line.old }
+    ensures { line.new ≡ line.old ++ ends (change_at changes.now) }
+{
+    for at in 0..64u8 {
+        append_end(line, ThreadIx::new(at + 1), changes[at as usize]);
+    }
 }
 
 impl Moves {
@@ -43,22 +112,35 @@ impl Moves {
     ///
     /// `NoMemory` where there is no memory for a register of 64 threads.
     pub fn new(alloc: Global) -> Result<Moves, NoMemory>
-        ensures { IfOk result (λ m. m ≡ no_changes) }
+        ensures { IfOk result (λ m. change_at m ≡ no_changes) }
     {
-        unreachable!()
+        let changes = vec![in alloc; None; 64]?;
+        Ok(Moves {
+            changes: Items::from_vec(changes),
+        })
     }
 
     /// Puts a change in place of that of a thread.
     pub fn set(&mut self, thread: ThreadIx, change: Change)
-        ensures { self.new ≡ with_change self.old thread change }
+        ensures { change_at self.new ≡ with_change (change_at self.old) thread change }
     {
-        unreachable!()
+        self.changes.set(thread.at() as usize - 1, Some(change));
     }
 
     /// Takes all changes out.
     pub fn clear(&mut self)
-        ensures { self.new ≡ no_changes }
+        ensures { change_at self.new ≡ no_changes }
     {
-        unreachable!()
+        for at in 0..self.changes.len() {
+            self.changes.set(at, None);
+        }
+    }
+
+    /// Applies the changes to a line. It takes no memory.
+    pub(crate) fn apply(&self, line: &mut Line)
+        ensures { line.new ≡ moved (change_at self.now) line.old }
+    {
+        apply_but_ends(self.changes.as_slice(), line);
+        append_ends(self.changes.as_slice(), line);
     }
 }

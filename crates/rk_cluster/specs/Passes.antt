@@ -1,0 +1,29 @@
+-- The line, one thread's change after another.
+use Rattle.std.specs.Prelude.{ℕ, zero, suc, ◌+◌, ◌≡◌, List, ◌++◌, false, Option, Some, None, ◌==◌, if◌then◌else◌}
+use Rattle.rk_model.specs.Lists.{has}
+use Rattle.rk_line.specs.declared.line.Place.{Place}
+use Rattle.rk_line.specs.Places.{threads}
+use Rattle.rk_cluster.specs.declared.moves.Change.{Change}
+use Rattle.rk_cluster.specs.declared.moves.Change.TheVariants.{ToEnd}
+use Rattle.rk_cluster.specs.Registers.{front_place, kept_places}
+
+-- the register in which one thread has a change
+abbrev pub alone : ℕ → Option Change → ℕ → Option Change
+alone t change u = if u == t then change else None
+
+-- the line after one thread's change, where a thread that goes to the end is taken out
+abbrev pub changed_but_end : ℕ → Option Change → List Place → List Place
+changed_but_end t change line = front_place t change ++ kept_places (alone t change) line
+
+-- the line after the changes of n threads, from t on, the greatest index first, where those that go to the end are taken out
+abbrev pub changed_but_ends_from : (ℕ → Option Change) → ℕ → ℕ → List Place → List Place
+changed_but_ends_from changes t zero line = line
+changed_but_ends_from changes t (suc n) line = changed_but_end t (changes t) (changed_but_ends_from changes (t + 1) n line)
+
+-- a thread that goes to the end isn't in the line
+abbrev pub IsOut : ℕ → Option Change → List Place → Type 0
+IsOut t change line = (p : ℕ) → change ≡ Some (ToEnd p) → has (threads line) t ≡ false
+
+-- no thread that goes to the end is in the line
+abbrev pub EndsAreOut : (ℕ → Option Change) → List Place → Type 0
+EndsAreOut changes line = (t : ℕ) → IsOut t (changes t) line
