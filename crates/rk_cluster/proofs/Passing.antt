@@ -11,7 +11,7 @@ use Rattle.rk_line.proofs.Lines.{threads-append}
 use Rattle.rk_cluster.specs.declared.moves.Change.{Change}
 use Rattle.rk_cluster.specs.declared.moves.Change.TheVariants.{Leave, ToEnd, ToFront, Stay}
 use Rattle.rk_cluster.specs.Registers.{change_at, no_changes, front_place, end_place, kept_place, kept_places, fronts_from, ends_from, fronts, ends}
-use Rattle.rk_cluster.specs.Passes.{alone, drawn, drawn_from, EndsAreOut}
+use Rattle.rk_cluster.specs.Passes.{alone, changed_but_end, changed_but_ends_from, EndsAreOut}
 
 -- a thread whose change keeps no place is taken out
 pub kept_out : (t : ℕ) (change : Option Change) (line : List Place) → ((place : Place) → kept_place place change ≡ []) → kept_places (alone t change) line ≡ without t line
@@ -30,9 +30,6 @@ kept_stay t prio (place ∷ line) = by t prio place line (place.thread == t) (ke
       kept_place place (cond b (Some (Stay prio)) None) ++ kept_places (alone t (Some (Stay prio))) line ≡ cond b (record place { prio = prio }) place ∷ with_prio t prio line
   by t prio place line true more = ap (λ (rest : List Place). (record place { prio = prio }) ∷ rest) more
   by t prio place line false more = ap (λ (rest : List Place). place ∷ rest) more
-
-kept_one : (f : ℕ → Option Change) (place : Place) → f place.thread ≡ None → kept_places f (place ∷ []) ≡ place ∷ []
-kept_one f place h = rw h refl
 
 -- where no thread of a line has a change, it stays as it is
 pub kept_all : (f : ℕ → Option Change) (line : List Place) → ((t : ℕ) → has (threads line) t ≡ true → f t ≡ None) → kept_places f line ≡ line
@@ -143,9 +140,9 @@ joins_one changes a n t = by (t == a) refl where
   by false is = inr (refl, refl)
 
 -- after the changes of n threads: those that go to the front, and what is kept
-drawn_all : (changes : ℕ → Option Change) (a n : ℕ) (line : List Place) → drawn_from changes a n line ≡ fronts_from changes a n ++ kept_places (gathered changes a n) line
-drawn_all changes a zero line = sym (kept_all (gathered changes a zero) line (λ t h. refl))
-drawn_all changes a (suc n) line =
+changed_from : (changes : ℕ → Option Change) (a n : ℕ) (line : List Place) → changed_but_ends_from changes a n line ≡ fronts_from changes a n ++ kept_places (gathered changes a n) line
+changed_from changes a zero line = sym (kept_all (gathered changes a zero) line (λ t h. refl))
+changed_from changes a (suc n) line =
     let front = fronts_from changes (a + 1) n in
     let kept = kept_places (gathered changes (a + 1) n) line in
     let one = alone a (changes a) in
@@ -153,7 +150,7 @@ drawn_all changes a (suc n) line =
     let same = alone_absent a (changes a) front absent in
     let twice = kept_twice (gathered changes (a + 1) n) one (gathered changes a (suc n)) line (joins_one changes a n) in
     let rest : kept_places one (front ++ kept) ≡ front ++ kept_places (gathered changes a (suc n)) line = kept-append one front kept ∙ (rw (same, twice) refl) in
-    ap (drawn a (changes a)) (drawn_all changes (a + 1) n line) ∙ (rw rest (sym (append_assoc (front_place a (changes a)) front (kept_places (gathered changes a (suc n)) line))))
+    ap (changed_but_end a (changes a)) (changed_from changes (a + 1) n line) ∙ (rw rest (sym (append_assoc (front_place a (changes a)) front (kept_places (gathered changes a (suc n)) line))))
 
 -- the changes of all threads are all changes
 all_gathered : (changes : List (Option Change)) (n t : ℕ) → length changes ≡ n → gathered (change_at changes) 1 n t ≡ change_at changes t
@@ -164,28 +161,28 @@ all_gathered changes n (suc i) size =
     (λ h. gathered_above (change_at changes) (suc i) 1 n (omega arith) ∙ sym (get_or_past changes i None (omega arith)))
     (cases_lt i n)
 
-drawn_whole : (changes : List (Option Change)) (n : ℕ) (line : List Place) → length changes ≡ n → drawn_from (change_at changes) 1 n line ≡ fronts_from (change_at changes) 1 n ++ kept_places (change_at changes) line
-drawn_whole changes n line size =
-    drawn_all (change_at changes) 1 n line ∙ ap (λ (kept : List Place). fronts_from (change_at changes) 1 n ++ kept) (kept-same (gathered (change_at changes) 1 n) (change_at changes) line (λ t. all_gathered changes n t size))
+changed_whole : (changes : List (Option Change)) (n : ℕ) (line : List Place) → length changes ≡ n → changed_but_ends_from (change_at changes) 1 n line ≡ fronts_from (change_at changes) 1 n ++ kept_places (change_at changes) line
+changed_whole changes n line size =
+    changed_from (change_at changes) 1 n line ∙ ap (λ (kept : List Place). fronts_from (change_at changes) 1 n ++ kept) (kept-same (gathered (change_at changes) 1 n) (change_at changes) line (λ t. all_gathered changes n t size))
 
 whole_fronts : (changes : ℕ → Option Change) (n : ℕ) → n ≡ 64 → fronts_from changes 1 n ≡ fronts changes
 unfolding fronts
 whole_fronts changes n e = ap (fronts_from changes 1) e
 
 -- when the changes of all threads are done
-pub all_drawn : (changes : List (Option Change)) (n : ℕ) (line0 line : List Place) → length changes ≡ 64 → n ≡ 64 → line ≡ drawn_from (change_at changes) (65 - n) n line0 → line ≡ fronts (change_at changes) ++ kept_places (change_at changes) line0
-all_drawn changes n line0 line size e is =
+pub all_changed : (changes : List (Option Change)) (n : ℕ) (line0 line : List Place) → length changes ≡ 64 → n ≡ 64 → line ≡ changed_but_ends_from (change_at changes) (65 - n) n line0 → line ≡ fronts (change_at changes) ++ kept_places (change_at changes) line0
+all_changed changes n line0 line size e is =
     let first : 65 - n ≡ 1 = omega arith in
     let at_one = rw first at is in
-    at_one ∙ drawn_whole changes n line0 (size ∙ sym e) ∙ ap (λ (front : List Place). front ++ kept_places (change_at changes) line0) (whole_fronts (change_at changes) n e)
+    at_one ∙ changed_whole changes n line0 (size ∙ sym e) ∙ ap (λ (front : List Place). front ++ kept_places (change_at changes) line0) (whole_fronts (change_at changes) n e)
 
 -- one thread's change more
-pub drawn_more : (changes : ℕ → Option Change) (rest t : ℕ) (line0 line line' : List Place) → rest + t ≡ 64 → line ≡ drawn_from changes (65 - rest) rest line0 → line' ≡ drawn t (changes t) line → line' ≡ drawn_from changes (65 - (rest + 1)) (rest + 1) line0
-drawn_more changes rest t line0 line line' sum is next =
+pub one_more_changed : (changes : ℕ → Option Change) (rest t : ℕ) (line0 line line' : List Place) → rest + t ≡ 64 → line ≡ changed_but_ends_from changes (65 - rest) rest line0 → line' ≡ changed_but_end t (changes t) line → line' ≡ changed_but_ends_from changes (65 - (rest + 1)) (rest + 1) line0
+one_more_changed changes rest t line0 line line' sum is next =
     let e : 65 - (rest + 1) ≡ t = omega arith in
     let f : 65 - rest ≡ t + 1 = omega arith in
     let g : rest + 1 ≡ suc rest = omega arith in
-    rw (e, g) (next ∙ ap (drawn t (changes t)) (rw f at is))
+    rw (e, g) (next ∙ ap (changed_but_end t (changes t)) (rw f at is))
 
 -- a thread that goes to the end doesn't go to the front
 front_out : (t p u : ℕ) (changes : ℕ → Option Change) (change : Option Change) → changes t ≡ Some (ToEnd p) → changes u ≡ change → has (threads (front_place u change)) t ≡ false

@@ -12,13 +12,13 @@ abbrev pub alone : ℕ → Option Change → ℕ → Option Change
 alone t change u = if u == t then change else None
 
 -- the line after one thread's change, where a thread that goes to the end is taken out
-abbrev pub drawn : ℕ → Option Change → List Place → List Place
-drawn t change line = front_place t change ++ kept_places (alone t change) line
+abbrev pub changed_but_end : ℕ → Option Change → List Place → List Place
+changed_but_end t change line = front_place t change ++ kept_places (alone t change) line
 
--- the line after the changes of n threads, from t on, the greatest index first
-abbrev pub drawn_from : (ℕ → Option Change) → ℕ → ℕ → List Place → List Place
-drawn_from changes t zero line = line
-drawn_from changes t (suc n) line = drawn t (changes t) (drawn_from changes (t + 1) n line)
+-- the line after the changes of n threads, from t on, the greatest index first, where those that go to the end are taken out
+abbrev pub changed_but_ends_from : (ℕ → Option Change) → ℕ → ℕ → List Place → List Place
+changed_but_ends_from changes t zero line = line
+changed_but_ends_from changes t (suc n) line = changed_but_end t (changes t) (changed_but_ends_from changes (t + 1) n line)
 
 -- a thread that goes to the end isn't in the line
 abbrev pub IsOut : ℕ → Option Change → List Place → Type 0

@@ -59,7 +59,9 @@ impl Cluster {
         })
     }
 
-    /// Applies the changes to the line, and assigns the processors by it. It takes no memory.
+    /// Applies the changes to the line, and assigns the processors by it. A runner that had a
+    /// processor keeps it; the others, the most urgent first, take the free processors in rising
+    /// number. It takes no memory.
     pub fn settle(&mut self, moves: &Moves)
         ensures { self.new ≡ settled (change_at moves.now) self.old }
     {

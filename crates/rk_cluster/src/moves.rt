@@ -1,7 +1,7 @@
 ghost use Rattle.std.specs.Prelude.{◌≡◌, ◌++◌, IfOk, length, replicate, None};
 ghost use Rattle.rk_line.specs.Places.{without, with_prio};
 ghost use Rattle.rk_cluster.specs.Registers.{change_at, no_changes, with_change, end_place, fronts, ends, kept_places, moved};
-ghost use Rattle.rk_cluster.specs.Passes.{drawn, IsOut, EndsAreOut};
+ghost use Rattle.rk_cluster.specs.Passes.{changed_but_end, IsOut, EndsAreOut};
 
 use rk_line::Line;
 use rk_model::{Items, NoMemory, Prio, ThreadIx};
@@ -11,17 +11,18 @@ use std::marker::Model;
 /// What settling does to a thread of a cluster.
 #[derive(Clone, Copy, Debug, PartialEq, Eq)]
 pub enum Change {
-    /// It leaves the line.
+    /// It leaves the line, where it is in it.
     Leave,
     /// It goes to the end of the line, with this priority, or comes there anew.
     ToEnd(Prio),
-    /// It goes to the front of the line, with this priority.
+    /// It goes to the front of the line, with this priority, or comes there anew.
     ToFront(Prio),
-    /// It keeps its place in the line, with this priority.
+    /// It keeps its place in the line, where it has one, with this priority.
     Stay(Prio),
 }
 
-/// A register of at most one change for each thread. Contracts see the change of each thread.
+/// A register of at most one change for each thread. Contracts see the list of the changes, and
+/// speak of it by `change_at`, the change of each thread.
 #[derive(Debug, Drop)]
 pub struct Moves {
     changes: Items<Option<Change>>,
@@ -57,13 +58,12 @@ fn change_in(line: &mut Line, thread: ThreadIx, prio: Prio)
 }
 
 /// Applies one thread's change to a line. A thread that goes to the end is taken out.
-fn draw(line: &mut Line, thread: ThreadIx, change: Option<Change>)
-    ensures { line.new ≡ drawn thread change line.old }
+fn apply_but_end(line: &mut Line, thread: ThreadIx, change: Option<Change>)
+    ensures { line.new ≡ changed_but_end thread change line.old }
 {
     let Some(change) = change else { return };
     match change {
-        Change::Leave => take_out(line, thread),
-        Change::ToEnd(_) => take_out(line, thread),
+        Change::Leave | Change::ToEnd(_) => take_out(line, thread),
         Change::ToFront(prio) => {
             take_out(line, thread);
             line.prepend(thread, prio);
@@ -73,13 +73,13 @@ fn draw(line: &mut Line, thread: ThreadIx, change: Option<Change>)
 }
 
 /// Applies the changes of all threads to a line. The threads that go to the end are taken out.
-fn draw_all(changes: &[Option<Change>], line: &mut Line)
+fn apply_but_ends(changes: &[Option<Change>], line: &mut Line)
     requires { length changes.now ≡ 64 }
     ensures { line.new ≡ fronts (change_at changes.now) ++ kept_places (change_at changes.now) line.old }
 {
     for rest in 0..64u8 {
         let thread = ThreadIx::new(64 - rest);
-        draw(line, thread, changes[thread.at() as usize - 1]);
+        apply_but_end(line, thread, changes[thread.at() as usize - 1]);
     }
 }
 
@@ -140,7 +140,7 @@ impl Moves {
     pub(crate) fn apply(&self, line: &mut Line)
         ensures { line.new ≡ moved (change_at self.now) line.old }
     {
-        draw_all(self.changes.as_slice(), line);
+        apply_but_ends(self.changes.as_slice(), line);
         append_ends(self.changes.as_slice(), line);
     }
 }

@@ -75,7 +75,7 @@ fn is_end(words: &[Word]) -> bool
     }
 }
 
-/// The processors of all clusters.
+/// The processors of all clusters, at most 255.
 fn cpus_in(clusters: &[u8]) -> u8
     requires { cpus_in clusters.now ≤ 255 }
     ensures { result ≡ cpus_in clusters.now }

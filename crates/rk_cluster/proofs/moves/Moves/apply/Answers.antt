@@ -4,4 +4,4 @@ use Rattle.rk_cluster.proofs.moves.Moves.apply.Goals as goal
 
 pub append_ends-requires-clause-out : goal.append_ends-requires-clause-out
 append_ends-requires-clause-out c =
-    rw (c.draw_all.ensures, c.as_slice-2.ensures, c.as_slice.ensures) (ends_out (change_at c.self.inside.changes) c.args.line.now)
+    rw (c.apply_but_ends.ensures, c.as_slice-2.ensures, c.as_slice.ensures) (ends_out (change_at c.self.inside.changes) c.args.line.now)

@@ -1,8 +1,9 @@
-use Rattle.std.proofs.Common.{◌∷◌, List, ◌∙◌, sym, refl, ap}
+use Rattle.std.proofs.Common.{⊎_elim, Some, ◌∷◌, List, ◌∙◌, sym, refl, ap}
 use Rattle.rk_line.specs.declared.line.Place.{Place}
 use Rattle.rk_line.proofs.Lines.{gone}
+use Rattle.rk_cluster.specs.declared.moves.Change.{Change}
 use Rattle.rk_cluster.proofs.Passing.{kept_none, kept_out, kept_stay}
-use Rattle.rk_cluster.proofs.moves.draw.Goals as goal
+use Rattle.rk_cluster.proofs.moves.apply_but_end.Goals as goal
 
 pub returns-in_default : goal.returns-in_default
 returns-in_default c = rw c.in_default.is (sym (kept_none c.args.thread c.args.line.now))
@@ -11,10 +12,11 @@ pub prepend-requires : goal.prepend-requires
 prepend-requires c = rw c.take_out-in-ToFront.ensures (gone c.args.thread c.args.line.now)
 
 pub returns-in-Leave : goal.returns-in-Leave
-returns-in-Leave c = rw (c.in-Some.is, c.in-Leave.is) (c.take_out.ensures ∙ sym (kept_out c.args.thread _ c.args.line.now (λ place. refl)))
-
-pub returns-in-ToEnd : goal.returns-in-ToEnd
-returns-in-ToEnd c = rw (c.in-Some.is, c.in-ToEnd.is) (c.take_out-in-ToEnd.ensures ∙ sym (kept_out c.args.thread _ c.args.line.now (λ place. refl)))
+returns-in-Leave c =
+    ⊎_elim
+    (λ e. let is = c.in-Some.is ∙ ap (λ (change : Change). Some change) e in rw is (c.take_out.ensures ∙ sym (kept_out c.args.thread _ c.args.line.now (λ place. refl))))
+    (λ e. let is = c.in-Some.is ∙ ap (λ (change : Change). Some change) e.1 in rw is (c.take_out.ensures ∙ sym (kept_out c.args.thread _ c.args.line.now (λ place. refl))))
+    c.in-Leave.is
 
 pub returns-in-ToFront : goal.returns-in-ToFront
 returns-in-ToFront c =

@@ -1,7 +1,0 @@
-use Rattle.std.proofs.Common.{◌≡◌, ◌-◌}
-use Rattle.rk_cluster.specs.Registers.{change_at}
-use Rattle.rk_cluster.specs.Passes.{drawn_from}
-use Rattle.rk_cluster.proofs.moves.draw_all.Given as goal
-
-abbrev pub invariant-loop-rest : goal.invariant-loop-rest
-invariant-loop-rest l = l.line ≡ drawn_from (change_at l.changes) (65 - l.rest) l.rest l.fn.line
