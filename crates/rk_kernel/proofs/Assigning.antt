@@ -1,21 +1,12 @@
 -- The processors have threads of the line alone.
-use Rattle.std.proofs.Common.{◌≡◌, ℕ, zero, suc, List, [], ◌∷◌, ◌++◌, Bool, true, false, cond, not, ◌||◌, ◌==◌, ◌⊎◌, inl, inr, ⊎_elim, Option, Some, None, length, map, arith, refl, ◌∙◌}
+use Rattle.std.proofs.Common.{◌≡◌, ℕ, zero, suc, List, [], ◌∷◌, ◌++◌, Bool, true, false, cond, not, ◌||◌, ◌==◌, ◌⊎◌, inl, inr, ⊎_elim, Option, Some, None, map, arith, refl}
 use Rattle.std.specs.List.{filter}
 use Rattle.std.specs.Option.{option_to_list}
-use Rattle.std.proofs.lemmas.List.{length-map}
 use Rattle.std.proofs.lemmas.Bool.{false≢true}
 use Rattle.std.proofs.lemmas.Bool.Decides.{nat_tests}
 use Rattle.rk_model.specs.Lists.{has}
+use Rattle.rk_model.proofs.Counts.{has-append}
 use Rattle.rk_model.specs.Lines.{rank, ranked_from, nth_urgent, most_urgent, has_cpu, kept, filled, assigned}
-
-length-filled : (cpus : List (Option ℕ)) (ts : List ℕ) → length (filled cpus ts) ≡ length cpus
-length-filled [] ts = refl
-length-filled (Some u ∷ cpus) ts = omega (arith, length-filled cpus ts)
-length-filled (None ∷ cpus) [] = omega (arith, length-filled cpus [])
-length-filled (None ∷ cpus) (t ∷ ts) = omega (arith, length-filled cpus ts)
-
-pub length-assigned : (old : List (Option ℕ)) (running : List ℕ) → length (assigned old running) ≡ length old
-length-assigned old running = length-filled (map (kept running) old) _ ∙ length-map old (kept running)
 
 pub either : (a b : Bool) → (a || b) ≡ true → (a ≡ true) ⊎ (b ≡ true)
 either true b h = inl refl
@@ -40,10 +31,6 @@ ranked_has : (key : ℕ → ℕ) (n : ℕ) (front back : List ℕ) (t : ℕ) →
 ranked_has key n front [] t h = cc
 ranked_has key n front (u ∷ back) t h =
     found_or u t back (ranked_from key n (front ++ u ∷ []) back) (rank key front u back == n) h (ranked_has key n (front ++ u ∷ []) back t)
-
-pub has-append : (xs ys : List ℕ) (t : ℕ) → has (xs ++ ys) t ≡ (has xs t || has ys t)
-has-append [] ys t = refl
-has-append (x ∷ xs) ys t = grind (arith, nat_tests, has-append xs ys t)
 
 pub option_has : (o : Option ℕ) (t : ℕ) → has (option_to_list o) t ≡ true → o ≡ Some t
 option_has None t h = absurd (false≢true h)

@@ -20,7 +20,7 @@ use Rattle.rk_model.specs.Scenarios.{IsScenario}
 use Rattle.rk_kernel.specs.Sound.{stands, own, AllSound, IsClusterSound, IsSound, KeepsLines, IsGentle}
 use Rattle.rk_kernel.specs.Laws.{seats, ProcessorsHaveTheRunners, NoneRunsTwice}
 use Rattle.rk_kernel.proofs.Moving.{line_moved, standing_at, length-standings}
-use Rattle.rk_kernel.proofs.Assigning.{length-assigned}
+use Rattle.rk_cluster.proofs.Assigning.{length-assigned}
 use Rattle.rk_kernel.proofs.Passing.{passed_steady}
 use Rattle.rk_kernel.proofs.Belonging.{own_once, sound_at}
 use Rattle.rk_kernel.proofs.Seats.{seats_assigned}

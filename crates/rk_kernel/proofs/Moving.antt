@@ -1,9 +1,8 @@
 -- The moves keep in each line exactly the eligible threads of its cluster.
-use Rattle.std.proofs.Common.{◌≡◌, ℕ, zero, suc, ◌+◌, ◌<◌, ◌≤◌, List, [], ◌∷◌, ◌++◌, Bool, true, false, cond, not, ◌&&◌, ◌==◌, nat_lt, length, get_or, ⊎_elim, arith, refl, ap, sym, ◌∙◌}
+use Rattle.std.proofs.Common.{◌≡◌, ℕ, zero, suc, ◌+◌, ◌<◌, ◌≤◌, List, ◌++◌, Bool, true, false, cond, not, ◌&&◌, ◌==◌, nat_lt, length, get_or, ⊎_elim, arith, refl, ap, sym, ◌∙◌}
 use Rattle.std.specs.List.{filter, range_with_len}
 use Rattle.std.proofs.lemmas.List.{get_or_past}
 use Rattle.std.proofs.lemmas.Bool.{cases_lt, false≢true}
-use Rattle.std.proofs.lemmas.Bool.Decides.{nat_tests}
 use Rattle.rk_model.specs.declared.settling.Standing.{Standing}
 use Rattle.rk_model.specs.declared.settling.Move.{Move}
 use Rattle.rk_model.specs.declared.settling.Move.TheVariants.{Stay, Leave, ToEnd, ToFront}
@@ -14,7 +13,7 @@ use Rattle.rk_model.specs.Priorities.{is_eligible, standing, standings, standing
 use Rattle.rk_model.specs.Settling.{is_stay, is_to_end, is_to_front, move_of, moves, makes, making, moved}
 use Rattle.rk_kernel.proofs.Tests.{and_false, and_back}
 use Rattle.rk_kernel.specs.Sound.{stands, own, IsGentle}
-use Rattle.rk_model.proofs.Counts.{times-append, times-filter, times-has}
+use Rattle.rk_model.proofs.Counts.{times-append, times-filter, times-has, has_times, once_in_range}
 
 -- the move, by what is asked of a thread: eligible now, eligible before, more urgent, last, less urgent
 abbrev chosen : Bool → Bool → Bool → Bool → Bool → Move
@@ -95,25 +94,13 @@ pub line_moved : (k next : Plain) (last : List ℕ) (c : ℕ) (line : List ℕ) 
 line_moved k next last c line gentle held t =
     times-moved (standings k) (standings next) last next.threads c line t (held t ∙ own_placed k c t ∙ was_placed k next c t gentle) ∙ sym (own_placed next c t)
 
-has_by_times : (t : ℕ) (xs : List ℕ) → 0 < times t xs → has xs t ≡ true
-has_by_times t [] h = absurd (omega arith)
-has_by_times t (x ∷ xs) h = grind (arith, nat_tests, h, has_by_times t xs)
-
 -- where its line has exactly the eligible threads of a cluster, it still has exactly those that were eligible
 stood_by : (b : Bool) (n t : ℕ) (line : List ℕ) → times t line ≡ cond b n 0 → (b ≡ true → 0 < n) → has line t ≡ b
-stood_by true n t line held some = has_by_times t line (rw held (some refl))
+stood_by true n t line held some = has_times t line (rw held (some refl))
 stood_by false n t line held some = by (has line t) refl where
   by : (e : Bool) → has line t ≡ e → e ≡ false
   by true is = let h = times-has t line is in absurd (omega (arith, h, held))
   by false is = refl
-
-within_range : (a n t : ℕ) → a ≤ t → t < a + n → 0 < times t (range_with_len a n)
-within_range a zero t low high = absurd (omega (arith, low, high))
-within_range a (suc n) t low high =
-    ⊎_elim
-    (λ lt. let more = within_range (a + 1) n t (omega (arith, lt)) (omega (arith, high)) in omega (arith, more))
-    (λ le. let same : a ≡ t = omega (arith, low, le) in grind (arith, nat_tests, same))
-    (cases_lt a t)
 
 -- who was eligible is one of the threads
 noted_within : (k : Plain) (t : ℕ) → (nth_standing (standings k) t).eligible ≡ true → (1 ≤ t) × (t < 1 + length k.threads)
@@ -127,4 +114,4 @@ noted_within k (suc i) h =
 pub stood_in_line : (k next : Plain) (c : ℕ) (line : List ℕ) → IsGentle k next → length next.threads ≡ 64 → ((t : ℕ) → times t line ≡ times t (own k c)) → (t : ℕ) → has line t ≡ (((nth no_thread next.threads t).home == c) && (nth_standing (standings k) t).eligible)
 stood_in_line k next c line gentle size held t =
     stood_by _ (times t (range_with_len 1 (length next.threads))) t line (held t ∙ own_placed k c t ∙ was_placed k next c t gentle)
-    (λ h. let w = noted_within k t (and_back ((nth no_thread next.threads t).home == c) (nth_standing (standings k) t).eligible h) in within_range 1 (length next.threads) t w.0 (omega (arith, w.1, gentle.places)))
+    (λ h. let w = noted_within k t (and_back ((nth no_thread next.threads t).home == c) (nth_standing (standings k) t).eligible h) in (let high : t < 1 + length next.threads = omega (arith, w.1, gentle.places) in omega (arith, once_in_range t 1 (length next.threads) w.0 high)))

@@ -7,7 +7,7 @@ use Rattle.std.proofs.lemmas.Bool.Decides.{nat_tests}
 use Rattle.rk_model.specs.Lists.{has, times}
 use Rattle.rk_model.specs.Lines.{has_cpu, kept, filled, assigned}
 use Rattle.rk_kernel.specs.Laws.{seats}
-use Rattle.rk_model.proofs.Counts.{same_either_way, times-append, times-filter, times-has, length_by_times}
+use Rattle.rk_model.proofs.Counts.{same_either_way, times-append, times-filter, times-has, times_none, length_by_times}
 
 -- the threads that processors have
 abbrev held : List (Option ℕ) → List ℕ
@@ -73,10 +73,6 @@ no_seat : (t : ℕ) (cpus : List (Option ℕ)) → has_cpu cpus t ≡ false → 
 no_seat t [] h = refl
 no_seat t (None ∷ cpus) h = no_seat t cpus h
 no_seat t (Some u ∷ cpus) h = grind (arith, nat_tests, h, no_seat t cpus)
-
-pub times_none : (t : ℕ) (xs : List ℕ) → has xs t ≡ false → times t xs ≡ 0
-times_none t [] h = refl
-times_none t (x ∷ xs) h = grind (arith, nat_tests, h, times_none t xs)
 
 -- whether it was on a processor and is a runner: as often as before, and as often as it is fresh
 kept_and_fresh : (seated runs : Bool) (s n : ℕ) → s ≤ 1 → n ≤ 1 → (seated ≡ true → 0 < s) → (seated ≡ false → s ≡ 0) → (runs ≡ true → 0 < n) → (runs ≡ false → n ≡ 0) → cond runs s 0 + cond (not seated) n 0 ≡ n

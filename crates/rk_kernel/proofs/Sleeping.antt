@@ -19,7 +19,7 @@ use Rattle.rk_model.specs.Steps.{directive, back, action_on, action}
 use Rattle.rk_kernel.specs.Sound.{IsSound, IsGentle, is_timed, has_time}
 use Rattle.std.proofs.lemmas.List.{get_or_past, length-map}
 use Rattle.std.proofs.lemmas.Bool.{cases_lt}
-use Rattle.rk_model.proofs.Counts.{length_by_times, length_range}
+use Rattle.rk_model.proofs.Counts.{length_by_times, length_range, once_in_range}
 use Rattle.rk_kernel.proofs.Bounds.{bounds_at, line_in, arrived_bounds}
 use Rattle.rk_kernel.proofs.Tests.{and_false}
 use Rattle.rk_kernel.proofs.Timing.{timers_at, never_timed}
@@ -57,14 +57,6 @@ sleep_gentle k t ticks sound above low none done line =
     gentle_timers k t (thread_at k t).home thread _ sound refl refl
     (record { home = b.home; line = b.line; working = b.working; calling = λ _. line; apart = λ w. absurd (omega (arith, w, done)); acts = λ _ free. absurd (false≢true (sym free)); computed = b.computed })
     (λ u. slept_here k t (thread_at k t).home (k.present + ticks) u thread sound b.home above low none refl refl (eqb t u) refl)
-
-outside_range : (t a n : ℕ) → t < a → times t (range_with_len a n) ≡ 0
-outside_range t a zero low = refl
-outside_range t a (suc n) low = grind (arith, nat_tests, outside_range t (a + 1) n)
-
-pub once_in_range : (t a n : ℕ) → a ≤ t → t < a + n → times t (range_with_len a n) ≡ 1
-once_in_range t a zero low high = absurd (omega arith)
-once_in_range t a (suc n) low high = grind (arith, nat_tests, once_in_range t (a + 1) n, outside_range t (a + 1) n)
 
 -- a thread whose wait has a timer is one of the threads
 pub timed_within : (k : Plain) (h t : ℕ) → is_timed k h t ≡ true → (0 < t) × (t ≤ length k.threads)

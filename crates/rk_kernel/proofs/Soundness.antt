@@ -12,7 +12,8 @@ use Rattle.rk_kernel.specs.Settleable.{IsSettleable, AllSettleable}
 use Rattle.rk_kernel.specs.Sound.{stands, own, IsClusterSound, AllSound, IsSound, KeepsLines, AllTimed, IsGentle}
 use Rattle.rk_kernel.proofs.Timing.{is_timed-with_clusters}
 use Rattle.rk_kernel.proofs.Moving.{line_moved, stood_in_line}
-use Rattle.rk_kernel.proofs.Assigning.{length-assigned, assigned_has}
+use Rattle.rk_kernel.proofs.Assigning.{assigned_has}
+use Rattle.rk_cluster.proofs.Assigning.{length-assigned}
 
 -- the line of a cluster is still the one that it was
 line_kept : (k next : Plain) (last : List ℕ) (c : ℕ) (a b : ClusterState) → IsGentle k next → IsClusterSound k c a → b.line ≡ a.line →
