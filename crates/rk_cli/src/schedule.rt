@@ -21,8 +21,13 @@ fn push_word(out: &mut Vec<u8>, op: Option<Op>) -> Result<(), NoMemory>
         None => push_text(out, "task.exit"),
         Some(Op::Work(_)) => push_text(out, "work"),
         Some(Op::Goto(_)) => push_text(out, "goto"),
+        Some(Op::TaskCreate(_, _, _)) => push_text(out, "task.create"),
+        Some(Op::TaskIdent(_, _)) => push_text(out, "task.ident"),
+        Some(Op::TaskStart(_, _)) => push_text(out, "task.start"),
         Some(Op::TaskSuspend(_)) => push_text(out, "task.suspend"),
         Some(Op::TaskResume(_)) => push_text(out, "task.resume"),
+        Some(Op::TaskSetPriority(_, _, _)) => push_text(out, "task.set_priority"),
+        Some(Op::TaskDelete(_)) => push_text(out, "task.delete"),
         Some(Op::TaskWakeAfter(_)) => push_text(out, "task.wake_after"),
     }
 }
