@@ -101,7 +101,8 @@ impl Ids {
         }
     }
 
-    /// Whether an object of this index lives.
+    /// Whether an object of this index lives. Its contract also tells that each index from 1 to 64 is
+    /// that of one live object or is free, and no other is either.
     pub fn is_live(&self, index: u16) -> bool
         ensures lives { result ≡ lives_at self.now index }
         ensures split { IsSplit self.now.names }
