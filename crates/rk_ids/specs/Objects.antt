@@ -11,6 +11,7 @@ pub record Objects : Type 0 where
   pub class : Class
   pub names : Names
 
+-- the objects of this class with these names and indices
 abbrev pub objects : Class → Names → Objects
 objects class names = record { class = class; names = names }
 

@@ -1,4 +1,4 @@
-ghost use Rattle.std.specs.Prelude.{◌≡◌, ◌≢◌, ◌↔◌, [], ◌==◌, length, IfOk, IfSome, OnErr, Err, true};
+ghost use Rattle.std.specs.Prelude.{◌≡◌, ◌≢◌, ◌↔◌, ◌≤◌, [], ◌==◌, length, IfOk, IfSome, OnErr, Err, true};
 ghost use Rattle.std.specs.List.{position_or_len, range_with_len};
 ghost use Rattle.rk_model.specs.Ids.{id_of, index_in};
 ghost use Rattle.rk_model.specs.Names.{no_names, given_back, least_named, lesser};
@@ -90,6 +90,7 @@ impl Ids {
     /// none.
     pub fn index_of(&self, id: Id) -> Option<u16>
         ensures index { result ≡ live_index self.now (index_in self.now.class id.bits) }
+        ensures few { IfSome result (λ index. (1 ≤ index) × (index ≤ 64)) }
         ensures lives { IfSome result (λ index. lives_at self.now index ≡ true) }
     {
         let index = id.index_in(self.class)?;
@@ -100,7 +101,8 @@ impl Ids {
         }
     }
 
-    /// Whether an object of this index lives.
+    /// Whether an object of this index lives. Its contract also tells that each index from 1 to 64 is
+    /// that of one live object or is free, and no other is either.
     pub fn is_live(&self, index: u16) -> bool
         ensures lives { result ≡ lives_at self.now index }
         ensures split { IsSplit self.now.names }

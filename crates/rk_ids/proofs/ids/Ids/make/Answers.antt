@@ -1,4 +1,4 @@
-use Rattle.std.proofs.Common.{◌≡◌, arith, refl, length}
+use Rattle.std.proofs.Common.{◌≡◌, rules, arith, refl, length}
 use Rattle.rk_ids.proofs.Splits.{full_split, first_of, room_to_make, free_within, split_taken}
 use Rattle.rk_ids.proofs.ids.Ids.make.Goals as goal
 
@@ -6,7 +6,7 @@ pub returns-then-is_empty-clause-full : goal.returns-then-is_empty-clause-full
 returns-then-is_empty-clause-full c =
     let none = c.is_empty.ensures.0 c.if-is_empty.true in
     let full = full_split (record { live = c.self.inside.live; free = c.self.inside.free }) c.self.invariant none in
-    ((λ e. (c.if-name-eq0.false, rw (← c.self.view_is) full)), (λ h. refl))
+    ((λ e. (search rules, rw (← c.self.view_is) full)), (λ h. refl))
 
 pub push-requires : goal.push-requires
 push-requires c =
