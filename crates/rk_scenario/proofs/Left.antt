@@ -5,8 +5,8 @@ use Rattle.rk_model.specs.declared.scenario.Body.{Body}
 use Rattle.rk_model.specs.declared.scenario.Init.{Init}
 use Rattle.rk_model.specs.declared.scenario.Scenario.{Scenario}
 use Rattle.rk_model.specs.Scenarios.{AreOps, AreBodies, AreDistinct, AreInits, IsNumber, IsCluster, AreClusters, cpus_in, IsTicks, IsInit}
-use Rattle.rk_scenario.specs.Drafts.{known_at}
 use Rattle.rk_model.specs.Reading.{Phase, Start, Headed, Clustered, Timed, Limited, InBody, InInits, Draft, init_operands}
+use Rattle.rk_scenario.specs.Drafts.{known_at}
 
 -- init lines, after those of b
 pub record InitsLeft (b : Scenario) (told : List (List (List ℕ))) (s : Scenario) : Type 0 where

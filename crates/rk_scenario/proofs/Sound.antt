@@ -13,9 +13,9 @@ use Rattle.rk_model.specs.declared.scenario.ScenarioWhy.TheVariants.{Header, Not
 use Rattle.rk_model.specs.Words.{is_body_name}
 use Rattle.rk_model.specs.Scenarios.{AreDistinct, IsBody, IsInit, body_of, cpus_in}
 use Rattle.rk_model.specs.Reading.{Phase, Start, Headed, Clustered, Timed, Limited, InBody, InInits, Draft, number_operand, op_line, init_operands, is_header, is_end, with_cluster, with_body, with_op, with_init, cluster_line, ticks_line, limit_line, body_line, inner_line, init_line, at_start, at_headed, at_clustered, at_timed, at_limited, at_inits, in_body, after_told}
+use Rattle.rk_scenario.specs.Drafts.{known_at}
 use Rattle.rk_scenario.proofs.Spelled.{bind_ok, then_ok, else_ok, either_ok, ok_is, text_is, number_ok, init_ok}
 use Rattle.rk_scenario.proofs.Directives.{op_ok}
-use Rattle.rk_scenario.specs.Drafts.{known_at}
 use Rattle.rk_scenario.proofs.Numbers.{has_room, few_with, few_cpus_with}
 use Rattle.rk_scenario.proofs.Named.{distinct_more}
 use Rattle.rk_scenario.proofs.Left.{InitsLeft, BodiesLeft, BodyLeft, LimitLeft, ClustersLeft, ClusterLeft, Completes, draft_at, ends, IsInit-kept}

@@ -262,7 +262,7 @@ pub(crate) fn body_operand(bodies: &[Body], word: &[u8]) -> Result<u8, ScenarioW
     }
 }
 
-/// The number of the body of a name among these, which stand in front of an open one, and that one.
+/// The number of the body of a name among these, and an open one behind them of the name `own`.
 fn known_body(front: &[Body], own: &[u8], name: &[u8]) -> Option<usize>
     ensures value { result ≡ body_known front.now own.now name.now }
     ensures within { IfSome result (λ b. b ≤ length front.now) }
