@@ -1,5 +1,6 @@
 pub mod Numbers
 pub mod Spelled
+pub mod Directives
 pub mod Named
 pub mod Left
 pub mod Sound

@@ -1,21 +1,20 @@
--- The words of a line are those of the grammar exactly where the machine takes them.
-use Rattle.std.proofs.Common.{◌≡◌, ℕ, ◌≤◌, ◌<◌, Bool, true, false, cond, ◌⊎◌, inl, inr, List, [], ◌∷◌, length, Option, Some, None, Result, Ok, Err, refl, ap, subst, arith, codes, ◌&&◌}
+-- The words of operands and of init lines are those of the grammar exactly where the machine takes them.
+use Rattle.std.proofs.Common.{◌≡◌, ℕ, ◌≤◌, ◌<◌, Bool, true, false, eqb, cond, ◌⊎◌, inl, inr, List, [], ◌∷◌, length, Option, Some, None, Result, Ok, Err, refl, ap, subst, arith, codes, ◌&&◌}
 use Rattle.std.specs.Prelude.{nat_le, nat_lt}
 use Rattle.std.specs.Str.{bytes_eq}
-use Rattle.std.proofs.lemmas.Bool.{and_parts, leb-true, le-leb, ltb-true, lt-ltb, false_from_ne_true}
+use Rattle.std.proofs.lemmas.Bool.{and_parts, eqb-true, leb-true, le-leb, ltb-true, lt-ltb, false_from_ne_true}
 use Rattle.std.proofs.lemmas.Slice.Eq.{bytes_eq-Decides}
 use Rattle.rk_model.specs.declared.scenario.Op.{Op}
-use Rattle.rk_model.specs.declared.scenario.Op.TheVariants.{Work, Goto, TaskSuspend, TaskResume, TaskWakeAfter}
 use Rattle.rk_model.specs.declared.scenario.Target.{Target}
-use Rattle.rk_model.specs.declared.scenario.Target.TheVariants.{Own, Given}
+use Rattle.rk_model.specs.declared.scenario.Target.TheVariants.{Var, Own, Given}
 use Rattle.rk_model.specs.declared.scenario.Body.{Body}
 use Rattle.rk_model.specs.declared.scenario.Init.{Init}
 use Rattle.rk_model.specs.declared.scenario.Scenario.{Scenario}
 use Rattle.rk_model.specs.declared.scenario.ScenarioWhy.{ScenarioWhy}
 use Rattle.rk_model.specs.declared.scenario.ScenarioWhy.TheVariants.{NotYetBuilt}
-use Rattle.rk_model.specs.Words.{number_of, decimal_of, name_of}
-use Rattle.rk_model.specs.Scenarios.{IsNumber, IsId, IsOp, IsInit, body_of, is_target}
-use Rattle.rk_model.specs.Reading.{◌>>=◌, within, below, known, led, number_operand, cluster_operand, id_operand, goto_operand, name_operand, body_operand, work_line, goto_line, suspend_line, resume_line, wake_after_line, op_line, init_operands}
+use Rattle.rk_model.specs.Words.{number_of, decimal_of, name_of, name0_of, var_of}
+use Rattle.rk_model.specs.Scenarios.{Known, IsNumber, IsId, IsInit, body_of, body_known, is_target}
+use Rattle.rk_model.specs.Reading.{◌>>=◌, within, below, known, led, id_by, number_operand, cluster_operand, var_operand, fixed_operand, id_operand, goto_operand, name_operand, name0_operand, body_operand, start_operand, init_operands}
 
 -- ---- steps that are taken
 
@@ -94,9 +93,9 @@ self_no_number bits e = cc
 number_not_self : (word : List ℕ) (bits : ℕ) → number_of word ≡ Some bits → bytes_eq word (codes "self") ≡ false
 number_not_self word bits e = false_from_ne_true (bytes_eq word (codes "self")) (λ same. self_no_number bits (subst (λ (w : List ℕ). number_of w ≡ Some bits) (text_is word (codes "self") same) e))
 
-id_ok : (word : List ℕ) (id : Target) → id_operand word ≡ Ok id → IsId word id
-unfolding id_operand
-id_ok word id e =
+fixed_ok : (word : List ℕ) (id : Target) → fixed_operand word ≡ Ok id → IsId word id
+unfolding fixed_operand
+fixed_ok word id e =
     elim (either_ok (bytes_eq word (codes "self")) (done Own) (number_operand 0 4294967295 word >>= (λ bits. Ok (Given bits))) id e) [
       | inl h ↦ subst (λ (i : Target). IsId word i) (ok_is Own id h.1) (text_is word (codes "self") h.0)
       | inr h ↦
@@ -104,10 +103,39 @@ id_ok word id e =
           subst (λ (i : Target). IsId word i) (ok_is (Given b.0) id b.2) (number_ok 0 4294967295 word b.0 b.1)
     ]
 
-id_is : (word : List ℕ) (id : Target) → IsId word id → id_operand word ≡ Ok id
+-- what begins with a v spells no number
+v_no_number : (b bits : ℕ) → number_of (118 ∷ b ∷ []) ≡ Some bits → ⊥
+unfolding number_of decimal_of
+v_no_number b bits e = cc
+
+number_no_v : (a b bits : ℕ) → number_of (a ∷ b ∷ []) ≡ Some bits → eqb a 118 ≡ false
+number_no_v a b bits e = false_from_ne_true (eqb a 118) (λ same. v_no_number b bits (subst (λ (x : ℕ). number_of (x ∷ b ∷ []) ≡ Some bits) (eqb-true a 118 same) e))
+
+-- a word that spells a number spells no variable
+number_no_var : (word : List ℕ) (bits : ℕ) → number_of word ≡ Some bits → var_of word ≡ None
+unfolding number_of decimal_of var_of
+number_no_var [] bits e = refl
+number_no_var (a ∷ []) bits e = refl
+number_no_var (a ∷ b ∷ []) bits e = rw (number_no_v a b bits e) refl
+number_no_var (a ∷ b ∷ c ∷ more) bits e = refl
+
+id_by_ok : (o : Option ℕ) (other : Result Target ScenarioWhy) (id : Target) → id_by o other ≡ Ok id → ((var : ℕ) × (o ≡ Some var) × (Var var ≡ id)) ⊎ (other ≡ Ok id)
+id_by_ok None other id e = inr e
+id_by_ok (Some var) other id e = inl (var, refl, ok_is (Var var) id e)
+
+pub id_ok : (word : List ℕ) (id : Target) → id_operand word ≡ Ok id → IsId word id
 unfolding id_operand
+id_ok word id e =
+    elim (id_by_ok (var_of word) (fixed_operand word) id e) [
+      | inl h ↦ subst (λ (i : Target). IsId word i) h.2 h.1
+      | inr h ↦ fixed_ok word id h
+    ]
+
+pub id_is : (word : List ℕ) (id : Target) → IsId word id → id_operand word ≡ Ok id
+unfolding id_operand fixed_operand var_of
+id_is word (Var var) h = rw h refl
 id_is word Own h = rw h refl
-id_is word (Given bits) h = rw (number_not_self word bits h.value, number_is 0 4294967295 word bits h) refl
+id_is word (Given bits) h = rw (number_no_var word bits h.value, number_not_self word bits h.value, number_is 0 4294967295 word bits h) refl
 
 led_ok : (earlier : List Op) (o : Option ℕ) (n : ℕ) → led earlier o ≡ Ok n → (o ≡ Some n) × (is_target earlier n ≡ true)
 led_ok earlier None n e = absurd cc
@@ -116,11 +144,11 @@ led_ok earlier (Some m) n e =
     let same : m ≡ n = ok_is m n t.1 in
     (ap (λ (k : ℕ). Some k) same, subst (λ (k : ℕ). is_target earlier k ≡ true) same t.0)
 
-goto_ok : (earlier : List Op) (word : List ℕ) (n : ℕ) → goto_operand earlier word ≡ Ok n → (number_of word ≡ Some n) × (is_target earlier n ≡ true)
+pub goto_ok : (earlier : List Op) (word : List ℕ) (n : ℕ) → goto_operand earlier word ≡ Ok n → (number_of word ≡ Some n) × (is_target earlier n ≡ true)
 unfolding goto_operand
 goto_ok earlier word n e = led_ok earlier (number_of word) n e
 
-goto_is : (earlier : List Op) (word : List ℕ) (n : ℕ) → number_of word ≡ Some n → is_target earlier n ≡ true → goto_operand earlier word ≡ Ok n
+pub goto_is : (earlier : List Op) (word : List ℕ) (n : ℕ) → number_of word ≡ Some n → is_target earlier n ≡ true → goto_operand earlier word ≡ Ok n
 unfolding goto_operand
 goto_is earlier word n e target = rw (e, target) refl
 
@@ -128,13 +156,37 @@ known_ok : (o : Option ℕ) (n : ℕ) → known o ≡ Ok n → o ≡ Some n
 known_ok None n e = absurd cc
 known_ok (Some m) n e = ap (λ (k : ℕ). Some k) (ok_is m n e)
 
-name_ok : (word : List ℕ) (n : ℕ) → name_operand word ≡ Ok n → name_of word ≡ Some n
+pub name_ok : (word : List ℕ) (n : ℕ) → name_operand word ≡ Ok n → name_of word ≡ Some n
 unfolding name_operand
 name_ok word n e = known_ok (name_of word) n e
 
-name_is : (word : List ℕ) (n : ℕ) → name_of word ≡ Some n → name_operand word ≡ Ok n
+pub name_is : (word : List ℕ) (n : ℕ) → name_of word ≡ Some n → name_operand word ≡ Ok n
 unfolding name_operand
 name_is word n e = rw e refl
+
+pub name0_ok : (word : List ℕ) (n : ℕ) → name0_operand word ≡ Ok n → name0_of word ≡ Some n
+unfolding name0_operand
+name0_ok word n e = known_ok (name0_of word) n e
+
+pub name0_is : (word : List ℕ) (n : ℕ) → name0_of word ≡ Some n → name0_operand word ≡ Ok n
+unfolding name0_operand
+name0_is word n e = rw e refl
+
+pub var_ok : (word : List ℕ) (n : ℕ) → var_operand word ≡ Ok n → var_of word ≡ Some n
+unfolding var_operand
+var_ok word n e = known_ok (var_of word) n e
+
+pub var_is : (word : List ℕ) (n : ℕ) → var_of word ≡ Some n → var_operand word ≡ Ok n
+unfolding var_operand
+var_is word n e = rw e refl
+
+pub start_ok : (told : Known) (word : List ℕ) (n : ℕ) → start_operand told word ≡ Ok n → body_known told.bodies told.own word ≡ Some n
+unfolding start_operand
+start_ok told word n e = known_ok (body_known told.bodies told.own word) n e
+
+pub start_is : (told : Known) (word : List ℕ) (n : ℕ) → body_known told.bodies told.own word ≡ Some n → start_operand told word ≡ Ok n
+unfolding start_operand
+start_is told word n e = rw e refl
 
 body_ok : (bodies : List Body) (word : List ℕ) (n : ℕ) → body_operand bodies word ≡ Ok n → body_of bodies word ≡ Some n
 unfolding body_operand
@@ -143,83 +195,6 @@ body_ok bodies word n e = known_ok (body_of bodies word) n e
 body_is : (bodies : List Body) (word : List ℕ) (n : ℕ) → body_of bodies word ≡ Some n → body_operand bodies word ≡ Ok n
 unfolding body_operand
 body_is bodies word n e = rw e refl
-
--- ---- lines of a body
-
-work_ok : (earlier : List Op) (operands : List (List ℕ)) (op : Op) → work_line operands ≡ Ok op → IsOp earlier (codes "work" ∷ operands) op
-unfolding work_line
-work_ok earlier [] op e = absurd cc
-work_ok earlier (word ∷ []) op e =
-    let b = bind_ok (number_operand 1 1000000 word) (λ x. Ok (Work x)) op e in
-    subst (λ (o : Op). IsOp earlier (codes "work" ∷ word ∷ []) o) (ok_is (Work b.0) op b.2) (word, refl, number_ok 1 1000000 word b.0 b.1)
-work_ok earlier (word ∷ more ∷ words) op e = absurd cc
-
-goto_line_ok : (earlier : List Op) (operands : List (List ℕ)) (op : Op) → goto_line earlier operands ≡ Ok op → IsOp earlier (codes "goto" ∷ operands) op
-unfolding goto_line
-goto_line_ok earlier [] op e = absurd cc
-goto_line_ok earlier (word ∷ []) op e =
-    let b = bind_ok (goto_operand earlier word) (λ x. Ok (Goto x)) op e in
-    let target = goto_ok earlier word b.0 b.1 in
-    subst (λ (o : Op). IsOp earlier (codes "goto" ∷ word ∷ []) o) (ok_is (Goto b.0) op b.2) (word, refl, target.0, target.1)
-goto_line_ok earlier (word ∷ more ∷ words) op e = absurd cc
-
-suspend_ok : (earlier : List Op) (operands : List (List ℕ)) (op : Op) → suspend_line operands ≡ Ok op → IsOp earlier (codes "task.suspend" ∷ operands) op
-unfolding suspend_line
-suspend_ok earlier [] op e = absurd cc
-suspend_ok earlier (word ∷ []) op e =
-    let b = bind_ok (id_operand word) (λ x. Ok (TaskSuspend x)) op e in
-    subst (λ (o : Op). IsOp earlier (codes "task.suspend" ∷ word ∷ []) o) (ok_is (TaskSuspend b.0) op b.2) (word, refl, id_ok word b.0 b.1)
-suspend_ok earlier (word ∷ more ∷ words) op e = absurd cc
-
-resume_ok : (earlier : List Op) (operands : List (List ℕ)) (op : Op) → resume_line operands ≡ Ok op → IsOp earlier (codes "task.resume" ∷ operands) op
-unfolding resume_line
-resume_ok earlier [] op e = absurd cc
-resume_ok earlier (word ∷ []) op e =
-    let b = bind_ok (id_operand word) (λ x. Ok (TaskResume x)) op e in
-    subst (λ (o : Op). IsOp earlier (codes "task.resume" ∷ word ∷ []) o) (ok_is (TaskResume b.0) op b.2) (word, refl, id_ok word b.0 b.1)
-resume_ok earlier (word ∷ more ∷ words) op e = absurd cc
-
-wake_after_ok : (earlier : List Op) (operands : List (List ℕ)) (op : Op) → wake_after_line operands ≡ Ok op → IsOp earlier (codes "task.wake_after" ∷ operands) op
-unfolding wake_after_line
-wake_after_ok earlier [] op e = absurd cc
-wake_after_ok earlier (word ∷ []) op e =
-    let b = bind_ok (number_operand 0 4294967295 word) (λ x. Ok (TaskWakeAfter x)) op e in
-    subst (λ (o : Op). IsOp earlier (codes "task.wake_after" ∷ word ∷ []) o) (ok_is (TaskWakeAfter b.0) op b.2) (word, refl, number_ok 0 4294967295 word b.0 b.1)
-wake_after_ok earlier (word ∷ more ∷ words) op e = absurd cc
-
--- what the machine takes as a line of a body is one
-pub op_ok : (earlier : List Op) (words : List (List ℕ)) (op : Op) → op_line earlier words ≡ Ok op → IsOp earlier words op
-unfolding op_line
-op_ok earlier [] op e = absurd cc
-op_ok earlier (first ∷ operands) op e =
-    let last : Result Op ScenarioWhy = cond (bytes_eq first (codes "task.wake_after")) (wake_after_line operands) (Err NotYetBuilt) in
-    let fourth : Result Op ScenarioWhy = cond (bytes_eq first (codes "task.resume")) (resume_line operands) last in
-    let third : Result Op ScenarioWhy = cond (bytes_eq first (codes "task.suspend")) (suspend_line operands) fourth in
-    let second : Result Op ScenarioWhy = cond (bytes_eq first (codes "goto")) (goto_line earlier operands) third in
-    elim (either_ok (bytes_eq first (codes "work")) (work_line operands) second op e) [
-      | inl h ↦ rw (text_is first (codes "work") h.0) (work_ok earlier operands op h.1)
-      | inr h ↦ elim (either_ok (bytes_eq first (codes "goto")) (goto_line earlier operands) third op h.1) [
-        | inl h ↦ rw (text_is first (codes "goto") h.0) (goto_line_ok earlier operands op h.1)
-        | inr h ↦ elim (either_ok (bytes_eq first (codes "task.suspend")) (suspend_line operands) fourth op h.1) [
-          | inl h ↦ rw (text_is first (codes "task.suspend") h.0) (suspend_ok earlier operands op h.1)
-          | inr h ↦ elim (either_ok (bytes_eq first (codes "task.resume")) (resume_line operands) last op h.1) [
-            | inl h ↦ rw (text_is first (codes "task.resume") h.0) (resume_ok earlier operands op h.1)
-            | inr h ↦
-                let t = then_ok (bytes_eq first (codes "task.wake_after")) (wake_after_line operands) NotYetBuilt op h.1 in
-                rw (text_is first (codes "task.wake_after") t.0) (wake_after_ok earlier operands op t.1)
-          ]
-        ]
-      ]
-    ]
-
--- a line of a body is taken by the machine
-pub op_is : (earlier : List Op) (words : List (List ℕ)) (op : Op) → IsOp earlier words op → op_line earlier words ≡ Ok op
-unfolding op_line work_line goto_line suspend_line resume_line wake_after_line
-op_is earlier words (Work n) h = rw (h.1, number_is 1 1000000 h.0 n h.2) refl
-op_is earlier words (Goto target) h = rw (h.1, goto_is earlier h.0 target h.2 h.3) refl
-op_is earlier words (TaskSuspend id) h = rw (h.1, id_is h.0 id h.2) refl
-op_is earlier words (TaskResume id) h = rw (h.1, id_is h.0 id h.2) refl
-op_is earlier words (TaskWakeAfter n) h = rw (h.1, number_is 0 4294967295 h.0 n h.2) refl
 
 -- ---- init lines
 

@@ -257,10 +257,11 @@ impl Draft {
     #[tactic(auto, unfolding(rk_model::specs::Reading::inner_line))]
     fn take_inner(&mut self, words: &[Word]) -> Result<(), LineError>
         requires small { IsSmall self.old }
+        requires most { HasAtMost 31 self.old }
         ensures next { Takes result (reading.inner_line (draft_of self.old) words.now) self.new }
         ensures small { OnOk result (IsSmall self.new) }
     {
-        let op = read_op(self.body.lines.as_slice(), words)?;
+        let op = read_op(self.scenario.bodies.as_slice(), &self.body, words)?;
         if self.body.lines.len() < 1000 {
             self.body.lines.push(op)?;
             Ok(())

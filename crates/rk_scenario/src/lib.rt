@@ -8,6 +8,7 @@ mod lines;
 mod operands;
 mod ops;
 mod read;
+mod tasks;
 #[cfg(test)]
 mod tests;
 mod words;

@@ -1,9 +1,10 @@
 ghost use Rattle.std.specs.Prelude.{◌≡◌, ◌<◌, ◌≤◌, ◌+◌, ◌*◌, ◌^◌, length, min, IfSome, IfOk};
 ghost use Rattle.std.specs.Option.{option_map};
 ghost use Rattle.std.specs.List.{list_all};
-ghost use Rattle.rk_model.specs.Words.{digit_value, digit_below, value_from, decimal_of, number_of, name_of, is_name_byte, is_lower, is_body_byte, is_body_name};
-ghost use Rattle.rk_model.specs.Scenarios.{body_of, body_from, is_named, may_be_target, is_target};
-ghost use Rattle.rk_model.specs.Reading.{number_operand, cluster_operand, id_operand, goto_operand, name_operand, body_operand};
+ghost use Rattle.rk_model.specs.Words.{digit_value, digit_below, value_from, decimal_of, number_of, name_of, var_of, is_name_byte, is_lower, is_body_byte, is_body_name};
+ghost use Rattle.rk_model.specs.Scenarios.{body_of, body_known, body_from, is_named, may_be_target, is_target};
+ghost use Rattle.rk_model.specs.Reading.{number_operand, cluster_operand, var_operand, fixed_operand, id_operand, goto_operand, name_operand, name0_operand, body_operand, start_operand};
+ghost use Rattle.rk_scenario.specs.Drafts.{known_at};
 
 use rk_model::{Body, Name, Op, ScenarioWhy, Target};
 
@@ -90,10 +91,43 @@ pub(crate) fn cluster_operand(count: usize, word: &[u8]) -> Result<u8, ScenarioW
     }
 }
 
-/// An ID: `self`, or a number of 32 bits.
+/// The number of the variable that a word spells: `v0` to `v7`.
+#[tactic(auto, unfolding(rk_model::specs::Words::var_of))]
+fn variable(word: &[u8]) -> Option<u8>
+    ensures { result ≡ var_of word.now }
+{
+    match word {
+        [b'v', digit @ b'0'..=b'7'] => Some(*digit - b'0'),
+        _ => None,
+    }
+}
+
+/// The number of the variable that a word spells.
+#[tactic(auto, unfolding(rk_model::specs::Reading::var_operand))]
+pub(crate) fn var_operand(word: &[u8]) -> Result<u8, ScenarioWhy>
+    ensures { result ≡ var_operand word.now }
+{
+    match variable(word) {
+        Some(var) => Ok(var),
+        None => Err(ScenarioWhy::NotYetBuilt),
+    }
+}
+
+/// An ID: a variable, `self`, or a number of 32 bits.
 #[tactic(auto, unfolding(rk_model::specs::Reading::id_operand))]
 pub(crate) fn id_operand(word: &[u8]) -> Result<Target, ScenarioWhy>
     ensures { result ≡ id_operand word.now }
+{
+    match variable(word) {
+        Some(var) => Ok(Target::Var(var)),
+        None => fixed_operand(word),
+    }
+}
+
+/// An ID that is no variable: `self`, or a number of 32 bits.
+#[tactic(auto, unfolding(rk_model::specs::Reading::fixed_operand))]
+fn fixed_operand(word: &[u8]) -> Result<Target, ScenarioWhy>
+    ensures { result ≡ fixed_operand word.now }
 {
     if word == b"self".as_slice() {
         Ok(Target::Own)
@@ -159,6 +193,18 @@ pub(crate) fn name_operand(word: &[u8]) -> Result<u32, ScenarioWhy>
     }
 }
 
+/// The name of an object that a word spells, where `-` is the name 0.
+#[tactic(auto, unfolding(rk_model::specs::Words::name0_of, rk_model::specs::Reading::name0_operand, rk_model::specs::Reading::name_operand))]
+pub(crate) fn name0_operand(word: &[u8]) -> Result<u32, ScenarioWhy>
+    ensures { result ≡ name0_operand word.now }
+{
+    if word == b"-".as_slice() {
+        Ok(0)
+    } else {
+        name_operand(word)
+    }
+}
+
 /// Whether a byte is a small letter.
 fn is_lower(byte: u8) -> bool
     ensures { result ≡ is_lower byte }
@@ -212,6 +258,31 @@ pub(crate) fn body_operand(bodies: &[Body], word: &[u8]) -> Result<u8, ScenarioW
 {
     match body_number(bodies, word) {
         Some(body) => Ok(body as u8),
+        None => Err(ScenarioWhy::NotYetBuilt),
+    }
+}
+
+/// The number of the body of a name among these, and an open one behind them of the name `own`.
+fn known_body(front: &[Body], own: &[u8], name: &[u8]) -> Option<usize>
+    ensures value { result ≡ body_known front.now own.now name.now }
+    ensures within { IfSome result (λ b. b ≤ length front.now) }
+{
+    match body_number(front, name) {
+        Some(number) => Some(number),
+        None if own == name => Some(front.len()),
+        None => None,
+    }
+}
+
+/// The number of the body whose name a word is, of those that a line of the open body may name: the
+/// ones in front of it, and itself.
+#[tactic(auto, unfolding(rk_model::specs::Reading::start_operand))]
+pub(crate) fn start_operand(front: &[Body], body: &Body, word: &[u8]) -> Result<u8, ScenarioWhy>
+    requires { length front.now ≤ 255 }
+    ensures { result ≡ start_operand (known_at front.now body.now) word.now }
+{
+    match known_body(front, body.name.as_slice(), word) {
+        Some(number) => Ok(number as u8),
         None => Err(ScenarioWhy::NotYetBuilt),
     }
 }

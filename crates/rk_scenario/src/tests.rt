@@ -116,6 +116,51 @@ fn refuses_bodies_and_inits(rt: HostRuntime) -> Result<(), Fail> {
 }
 
 #[test]
+fn refuses_lines_of_tasks(rt: HostRuntime) -> Result<(), Fail> {
+    let rows = [
+        "task.create AAAA 1\n",
+        "task.create AAAA 1 v0 v1\n",
+        "task.create AAAAA 1 v0\n",
+        "task.create -- 1 v0\n",
+        "task.create AAAA 4294967296 v0\n",
+        "task.create AAAA x v0\n",
+        "task.create AAAA 1 v8\n",
+        "task.create AAAA 1 v\n",
+        "task.create AAAA 1 v00\n",
+        "task.create AAAA 1 V0\n",
+        "task.ident - v0\n",
+        "task.ident AAAAA v0\n",
+        "task.ident AAAA v8\n",
+        "task.ident AAAA\n",
+        "task.ident AAAA v0 v1\n",
+        "task.start v0\n",
+        "task.start v0 b b\n",
+        "task.start v8 b\n",
+        "task.start v0 c\n",
+        "task.set_priority v0 1\n",
+        "task.set_priority v0 1 v0 v0\n",
+        "task.set_priority v8 1 v0\n",
+        "task.set_priority v0 4294967296 v0\n",
+        "task.set_priority v0 -1 v0\n",
+        "task.set_priority v0 1 v8\n",
+        "task.delete\n",
+        "task.delete v8\n",
+        "task.delete v0 v1\n",
+    ];
+    let open = repeated(rt.alloc(), FRONT, "body b\n", 1, "")?;
+    let tail = "end\nbody c\nend\n";
+    for row in rows {
+        let text = repeated(rt.alloc(), open.as_str(), row, 1, tail)?;
+        let want = Some(ScenarioError::Refused {
+            line: 5,
+            why: NOT_YET,
+        });
+        assert_eq!(rt; refusal(rt.alloc(), text.as_bytes()), want, "{row}");
+    }
+    Ok(())
+}
+
+#[test]
 fn counts_lines_and_bytes(rt: HostRuntime) -> Result<(), Fail> {
     let alloc = rt.alloc();
     let open = repeated(alloc, FRONT, "body b\n", 1, "")?;
@@ -200,6 +245,45 @@ fn reads_numbers_and_bodies(rt: HostRuntime) -> Result<(), Fail> {
         Op::TaskResume(Target::Given(0x0a01_0001)),
         Op::TaskResume(Target::Given(0)),
         Op::Goto(5),
+    ];
+    assert_eq!(rt; second.lines.as_slice(), lines.as_slice());
+    Ok(())
+}
+
+/// A text with each line of tasks.
+const TASKS: &str = "rtems 1\ncluster 1\nticks 0\nbody first\ntask.create T_1a 5 v0\n\
+                     task.create - 0xffffffff v7\ntask.ident T_1a v3\ntask.start v3 first\nend\n\
+                     body second\ntask.start 0x0a010001 first\ntask.start self second\n\
+                     task.set_priority v3 0 v1\ntask.set_priority self 4294967295 v7\n\
+                     task.suspend v3\ntask.resume v0\ntask.delete v3\ntask.delete self\n\
+                     task.delete 0\ngoto 2\nend\n";
+
+#[test]
+fn reads_lines_of_tasks(rt: HostRuntime) -> Result<(), Fail> {
+    let scenario = read_scenario(rt.alloc(), TASKS.as_bytes())
+        .ok()
+        .ok_or("it is a text")?;
+    let first = scenario.bodies.get(0).ok_or("a body")?;
+    let name = Name { bits: 0x545f_3161 };
+    let lines = [
+        Op::TaskCreate(name, 5, 0),
+        Op::TaskCreate(Name { bits: 0 }, 4_294_967_295, 7),
+        Op::TaskIdent(name, 3),
+        Op::TaskStart(Target::Var(3), 0),
+    ];
+    assert_eq!(rt; first.lines.as_slice(), lines.as_slice());
+    let second = scenario.bodies.get(1).ok_or("a body")?;
+    let lines = [
+        Op::TaskStart(Target::Given(0x0a01_0001), 0),
+        Op::TaskStart(Target::Own, 1),
+        Op::TaskSetPriority(Target::Var(3), 0, 1),
+        Op::TaskSetPriority(Target::Own, 4_294_967_295, 7),
+        Op::TaskSuspend(Target::Var(3)),
+        Op::TaskResume(Target::Var(0)),
+        Op::TaskDelete(Target::Var(3)),
+        Op::TaskDelete(Target::Own),
+        Op::TaskDelete(Target::Given(0)),
+        Op::Goto(2),
     ];
     assert_eq!(rt; second.lines.as_slice(), lines.as_slice());
     Ok(())
