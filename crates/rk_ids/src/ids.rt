@@ -1,7 +1,9 @@
-ghost use Rattle.std.specs.Prelude.{◌≡◌, ◌≤◌, ◌<◌, length, IfOk, true};
-ghost use Rattle.rk_model.specs.Ids.{id_of};
-ghost use Rattle.rk_model.specs.Names.{no_names, given_back};
-ghost use Rattle.rk_ids.specs.Objects.{objects, lives_at, Makes, Finds, IsPlaced};
+ghost use Rattle.std.specs.Prelude.{◌≡◌, ◌≢◌, ◌↔◌, ◌≤◌, [], ◌==◌, length, IfOk, IfSome, OnErr, Err, true};
+ghost use Rattle.std.specs.List.{position_or_len, range_with_len};
+ghost use Rattle.rk_model.specs.Ids.{id_of, index_in};
+ghost use Rattle.rk_model.specs.Names.{no_names, given_back, least_named, lesser};
+ghost use Rattle.rk_ids.specs.declared.ids.IdError.TheVariants.{InvalidName, TooMany};
+ghost use Rattle.rk_ids.specs.Objects.{objects, lives_at, live_index, optional_id, IsMade, IsSplit};
 
 use rk_model::{Bounded, Class, Id, Name, Named, NoMemory};
 use std::alloc::Global;
@@ -45,35 +47,67 @@ impl Ids {
     pub fn new(alloc: Global, class: Class) -> Result<Ids, NoMemory>
         ensures { IfOk result (λ i. i ≡ objects class no_names) }
     {
-        unreachable!()
+        let live = Bounded::new(alloc)?;
+        let mut free = Bounded::new(alloc)?;
+        free_all(&mut free);
+        Ok(Ids { class, live, free })
     }
 
     /// Gives the first free index to an object of this name, and answers its id. It takes no memory.
     ///
     /// # Errors
     ///
-    /// `InvalidName` exactly where the name is 0, and else `TooMany` exactly where 64 objects live.
-    /// Nothing changes then.
+    /// `InvalidName` exactly where the name is 0, and else `TooMany` exactly where 64 objects live,
+    /// which is where no index is free. Nothing changes then.
     pub fn make(&mut self, name: Name) -> Result<Id, IdError>
-        ensures { Makes result name self.old self.new }
+        ensures made { IfOk result (λ id. IsMade id.bits name.bits self.old self.new) }
+        ensures unnamed { (result ≡ Err InvalidName) ↔ (name.bits ≡ 0) }
+        ensures full { (result ≡ Err TooMany) ↔ ((name.bits ≢ 0) × (length self.old.names.live ≡ 64)) }
+        ensures none_free { (result ≡ Err TooMany) ↔ ((name.bits ≢ 0) × (self.old.names.free ≡ [])) }
+        ensures kept { OnErr result (self.new ≡ self.old) }
     {
-        unreachable!()
+        if name.bits == 0 {
+            return Err(IdError::InvalidName);
+        }
+        if self.free.is_empty() {
+            return Err(IdError::TooMany);
+        }
+        let index = self.free.take(0);
+        self.live.push(Named { index, name });
+        Ok(Id::of(self.class, index))
     }
 
     /// The id of the live object of least index that has the name; `None` exactly where there is
     /// none.
     pub fn find(&self, name: Name) -> Option<Id>
-        ensures { Finds result name.bits self.now }
+        ensures { result ≡ optional_id self.now.class (least_named name.bits self.now.names.live) }
     {
-        unreachable!()
+        let index = least_index(self.live.as_slice(), name)?;
+        Some(Id::of(self.class, index))
     }
 
     /// The index of the live object whose id it is, from 1 to 64; `None` exactly where it is that of
     /// none.
     pub fn index_of(&self, id: Id) -> Option<u16>
-        ensures { IsPlaced result id.bits self.now }
+        ensures index { result ≡ live_index self.now (index_in self.now.class id.bits) }
+        ensures few { IfSome result (λ index. (1 ≤ index) × (index ≤ 64)) }
+        ensures lives { IfSome result (λ index. lives_at self.now index ≡ true) }
     {
-        unreachable!()
+        let index = id.index_in(self.class)?;
+        if self.is_live(index) {
+            Some(index)
+        } else {
+            None
+        }
+    }
+
+    /// Whether an object of this index lives. Its contract also tells that each index from 1 to 64 is
+    /// that of one live object or is free, and no other is either.
+    pub fn is_live(&self, index: u16) -> bool
+        ensures lives { result ≡ lives_at self.now index }
+        ensures split { IsSplit self.now.names }
+    {
+        place_of(self.live.as_slice(), index) < self.live.len()
     }
 
     /// Ends the life of an object. Its index goes last among the free ones. It takes no memory.
@@ -81,6 +115,53 @@ impl Ids {
         requires { lives_at self.old index ≡ true }
         ensures { self.new ≡ objects self.old.class (given_back self.old.names index) }
     {
-        unreachable!()
+        let at = place_of(self.live.as_slice(), index);
+        self.live.take(at);
+        self.free.push(index);
     }
+}
+
+/// Puts the indices from 1 to 64 into an empty list, in order.
+fn free_all(free: &mut Bounded<u16, 64>)
+    requires { free.old ≡ [] }
+    ensures { free.new ≡ range_with_len 1 64 }
+{
+    for before in 0..64 {
+        free.push(before + 1);
+    }
+}
+
+/// The least index of the objects that have the name; `None` exactly where there is none.
+fn least_index(objects: &[Named], name: Name) -> Option<u16>
+    ensures { result ≡ least_named name.bits objects.now }
+{
+    let mut least = None;
+    for object in objects {
+        if object.name == name {
+            least = Some(lesser(object.index, least));
+        }
+    }
+    least
+}
+
+/// The lesser of an index and another, if there is another.
+fn lesser(index: u16, other: Option<u16>) -> u16
+    ensures { result ≡ lesser index other }
+{
+    match other {
+        None => index,
+        Some(other) => index.min(other),
+    }
+}
+
+/// How many objects stand in front of that of an index; the number of objects where there is none.
+fn place_of(objects: &[Named], index: u16) -> usize
+    ensures { result ≡ position_or_len (λ object. object.index == index) objects.now }
+{
+    for (at, object) in objects.iter().enumerate() {
+        if object.index == index {
+            return at;
+        }
+    }
+    objects.len()
 }

@@ -1,0 +1,6 @@
+use Rattle.std.proofs.Common.{sym}
+use Rattle.rk_ids.proofs.Splits.{has_position}
+use Rattle.rk_ids.proofs.ids.Ids.is_live.Goals as goal
+
+pub returns-clause-lives : goal.returns-clause-lives
+returns-clause-lives c = rw (c.place_of.ensures, c.as_slice.ensures, c.len.ensures, ← c.self.view_is) (sym (has_position c.args.index c.self.inside.live))
