@@ -8,10 +8,9 @@ use Rattle.rk_model.specs.State.{Plain, ClusterState, no_thread, no_cluster, clu
 use Rattle.rk_model.specs.Priorities.{is_eligible}
 use Rattle.rk_kernel.specs.Sound.{stands, own, IsSound, IsClusterSound, AllSound}
 use Rattle.rk_kernel.specs.Laws.{LinesHoldTheirOwn, HoldsItsOwn}
-use Rattle.rk_model.proofs.Counts.{times-filter}
+use Rattle.rk_model.proofs.Counts.{times-filter, once_in_range}
 use Rattle.rk_kernel.proofs.Callers.{stands_eligible}
 use Rattle.rk_kernel.proofs.Openings.{never_eligible}
-use Rattle.rk_model.proofs.Counts.{once_in_range}
 use Rattle.rk_kernel.proofs.Reached.{sound_after}
 
 -- an eligible thread is one of the threads

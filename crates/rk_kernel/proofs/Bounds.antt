@@ -6,9 +6,11 @@ use Rattle.std.proofs.lemmas.Bool.{cases_lt, false≢true}
 use Rattle.rk_model.specs.declared.scenario.Scenario.{Scenario}
 use Rattle.rk_model.specs.declared.scenario.Body.{Body}
 use Rattle.rk_model.specs.declared.scenario.Op.{Op}
-use Rattle.rk_model.specs.declared.scenario.Op.TheVariants.{Work, Goto, TaskSuspend, TaskResume, TaskWakeAfter}
+use Rattle.rk_model.specs.declared.scenario.Op.TheVariants.{Work, Goto, TaskCreate, TaskIdent, TaskStart, TaskSuspend, TaskResume, TaskSetPriority, TaskDelete, TaskWakeAfter}
 use Rattle.rk_model.specs.Limits.{LeadsWithin, GoesOn}
 use Rattle.rk_model.specs.Scenarios.{may_be_target, is_target}
+use Rattle.rk_model.specs.declared.state.Life.{Life}
+use Rattle.rk_model.specs.declared.state.Life.TheVariants.{Absent}
 use Rattle.rk_model.specs.declared.state.Thread.{Thread}
 use Rattle.rk_model.specs.State.{Plain, no_thread, thread_at, op_at, op_in}
 use Rattle.rk_model.specs.Outcomes.{landed, landing, arrived, work_at}
@@ -18,9 +20,13 @@ first_acts : (o : Option Body) → has_action (op_in o 0) ≡ true
 first_acts None = refl
 first_acts (Some body) = refl
 
+-- the bounds of a thread of which there is no more than its life, its home and its base priority
+pub blank_bounds : (s : Scenario) (n p : ℕ) (life : Life) (home base : ℕ) → home < n → IsInBounds s n p (record no_thread { life = life; home = home; base = base })
+blank_bounds s n p life home base within = record { home = within; line = omega arith; working = λ w. omega arith; calling = λ w. absurd (false≢true w); apart = λ w. refl; acts = λ _ _. first_acts (slice_get s.bodies 0); idle = λ _. refl; computed = omega arith }
+
 -- the bounds of what stands where there is no thread
 pub none_bounds : (s : Scenario) (n p : ℕ) → 0 < n → IsInBounds s n p no_thread
-none_bounds s n p some = record { home = some; line = omega arith; working = λ w. omega arith; calling = λ w. absurd (false≢true w); apart = λ w. refl; acts = λ _ _. first_acts (slice_get s.bodies 0); computed = omega arith }
+none_bounds s n p some = blank_bounds s n p Absent 0 255 some
 
 -- the bounds of a thread that is looked up
 pub bounds_at : (k : Plain) (t : ℕ) → IsSound k → IsInBounds k.scenario (length k.clusters) k.present (thread_at k t)
@@ -69,8 +75,13 @@ landed_within : (o : Option Op) (line : ℕ) → ((target : ℕ) → o ≡ Some 
 landed_within None line near low = low
 landed_within (Some (Work n)) line near low = low
 landed_within (Some (Goto target)) line near low = let h = near target refl in omega (arith, h)
+landed_within (Some (TaskCreate name prio var)) line near low = low
+landed_within (Some (TaskIdent name var)) line near low = low
+landed_within (Some (TaskStart id body)) line near low = low
 landed_within (Some (TaskSuspend id)) line near low = low
 landed_within (Some (TaskResume id)) line near low = low
+landed_within (Some (TaskSetPriority id prio var)) line near low = low
+landed_within (Some (TaskDelete id)) line near low = low
 landed_within (Some (TaskWakeAfter n)) line near low = low
 
 -- a thread that would arrive at a line is then at most behind the 1,000th
@@ -105,8 +116,13 @@ acts_here : (o : Option Op) → may_be_target o ≡ true → ((n : ℕ) → o �
 acts_here None is works none = refl
 acts_here (Some (Work n)) is works none = let h = works n refl in absurd (omega (arith, h, none))
 acts_here (Some (Goto target)) is works none = absurd (false≢true is)
+acts_here (Some (TaskCreate name prio var)) is works none = refl
+acts_here (Some (TaskIdent name var)) is works none = refl
+acts_here (Some (TaskStart id body)) is works none = refl
 acts_here (Some (TaskSuspend id)) is works none = refl
 acts_here (Some (TaskResume id)) is works none = refl
+acts_here (Some (TaskSetPriority id prio var)) is works none = refl
+acts_here (Some (TaskDelete id)) is works none = refl
 acts_here (Some (TaskWakeAfter n)) is works none = refl
 
 -- where a thread lands there is an action, or work
@@ -118,8 +134,13 @@ acts_landed s b line (Some (Work n)) goes e none =
     absurd (omega (arith, some, left))
 acts_landed s b line (Some (Goto target)) goes e none =
     acts_here (op_at s b target) (target_stands (slice_get s.bodies b) target (goes_in s.bodies b line (Goto target) goes e)) (λ n is. goes_in s.bodies b target (Work n) goes is) none
+acts_landed s b line (Some (TaskCreate name prio var)) goes e none = rw e refl
+acts_landed s b line (Some (TaskIdent name var)) goes e none = rw e refl
+acts_landed s b line (Some (TaskStart id body)) goes e none = rw e refl
 acts_landed s b line (Some (TaskSuspend id)) goes e none = rw e refl
 acts_landed s b line (Some (TaskResume id)) goes e none = rw e refl
+acts_landed s b line (Some (TaskSetPriority id prio var)) goes e none = rw e refl
+acts_landed s b line (Some (TaskDelete id)) goes e none = rw e refl
 acts_landed s b line (Some (TaskWakeAfter n)) goes e none = rw e refl
 
 -- the same for a thread that has arrived there
@@ -136,5 +157,6 @@ arrived_bounds s n p thread line short lead goes home low computed free = record
   calling = λ w. absurd (false≢true (rw free at w));
   apart = λ w. free;
   acts = λ none _. acts_arrived s thread.body line goes none;
+  idle = λ _. free;
   computed = computed;
 }

@@ -19,8 +19,10 @@ use Rattle.rk_kernel.specs.Firing.{head_of, due_now, FiresFirst}
 use Rattle.rk_kernel.specs.Sound.{IsSound, IsGentle, is_timed, has_time, is_in_call}
 use Rattle.rk_kernel.proofs.Tests.{equal_test, and_front, and_back}
 use Rattle.rk_kernel.proofs.Bounds.{bounds_at}
+use Rattle.rk_kernel.proofs.Naming.{named_put}
 use Rattle.rk_kernel.proofs.Gentle.{gentle_timers, is_timed_here, is_timed_other}
-use Rattle.rk_kernel.proofs.Sleeping.{timers_of, timed_within}
+use Rattle.rk_kernel.proofs.Timing.{timers_of}
+use Rattle.rk_kernel.proofs.Sleeping.{timed_within}
 
 no_due : (tick : ℕ) (timers : List Armed) → due_at tick timers ≡ [] → without_due tick timers ≡ timers
 no_due tick [] none = refl
@@ -113,8 +115,9 @@ expire_gentle k c xs x sound within due =
     let b = bounds_at k t sound in
     let calls = in_call (thread_at k t).wait (thread_at k t) parts.1 in
     let thread : Thread = record (thread_at k t) { wait = None; finished = Some (reply_at_timer (thread_at k t).wait) } in
-    gentle_timers k t c thread timers sound (sym parts.0) refl
-    (record { home = b.home; line = b.line; working = b.working; calling = λ _. b.calling calls; apart = λ w. absurd (false≢true (sym (b.apart w) ∙ calls)); acts = λ _ free. absurd (false≢true (sym free)); computed = b.computed })
+    gentle_timers k t c thread timers k.tasks sound (sym parts.0) refl
+    (record { home = b.home; line = b.line; working = b.working; calling = λ _. b.calling calls; apart = λ w. absurd (false≢true (sym (b.apart w) ∙ calls)); acts = λ _ free. absurd (false≢true (sym free)); idle = λ s. absurd (false≢true (sym (b.idle s) ∙ calls)); computed = b.computed })
+    (named_put k.tasks k.threads t thread refl sound.named)
     (λ u. fired_here k c t u thread timers sound within timed parts.0 refl (gone u) (eqb t u) refl)
 
 -- the timers behind the first

@@ -18,6 +18,7 @@ use Rattle.rk_model.specs.Running.{all_cpus}
 use Rattle.rk_model.specs.Histories.{begun, places, free_cluster, vacant, started, opening}
 use Rattle.rk_model.specs.Scenarios.{cpus_in}
 use Rattle.rk_model.specs.Limits.{IsWithinLimits}
+use Rattle.rk_kernel.proofs.Beginning.{named_vacant, named_begun}
 use Rattle.rk_kernel.proofs.Bounds.{none_bounds, arrived_bounds}
 use Rattle.rk_kernel.specs.Sound.{stands, own, is_timed, AllSound, IsInBounds, IsSound, AllTimed, IsGentle}
 use Rattle.rk_model.proofs.Counts.{times-filter}
@@ -116,6 +117,7 @@ sound_vacant s within =
       ops = within.ops;
       threads = rw size (All-from_recursion (IsInBounds s (length s.clusters) 0) (places 64 []) (all_begun s (length s.clusters) 64 [] within within.some_cluster tt));
       clusters = all_free (vacant s) 0 s.clusters (no_place 64) within.few_cpus;
+      named = named_vacant s;
     }
 
 pub gentle_started : (s : Scenario) → IsWithinLimits s → IsGentle (vacant s) (started s)
@@ -130,6 +132,7 @@ gentle_started s within =
       threads = rw size (All-from_recursion (IsInBounds s (length s.clusters) 0) threads (all_begun s (length s.clusters) 64 s.inits within within.some_cluster within.homes));
       lines = keeps_same (vacant s).clusters;
       timers = all_untimed (started s) 0 s.clusters (waits_not s 64 s.inits);
+      named = named_begun s s.inits within.few_inits;
     }
 
 -- The opening state is sound.

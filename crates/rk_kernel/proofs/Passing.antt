@@ -11,6 +11,7 @@ use Rattle.rk_model.specs.declared.state.Wait.TheVariants.{ForTime}
 use Rattle.rk_model.specs.Lists.{times}
 use Rattle.rk_model.specs.State.{Plain, ClusterState, no_thread, thread_at}
 use Rattle.rk_model.specs.Priorities.{is_eligible, is_started, is_no_wait, spins_in}
+use Rattle.rk_model.specs.Tasks.{is_live}
 use Rattle.rk_model.specs.Running.{runs_somewhere}
 use Rattle.rk_model.specs.Ticks.{charged, ticked, charge_from, pass}
 use Rattle.rk_kernel.specs.Sound.{AllLead, AllGoOn, IsSound, IsInBounds, AllSound, own, stands, is_timed, has_time}
@@ -85,16 +86,16 @@ more_left (suc (suc n)) some more none = omega (arith, none)
 charged_bounds : (s : Scenario) (n p : ℕ) (x : Thread) → AllByRecursion (λ (body : Body). length body.lines ≤ 1000) s.bodies → AllLead s.bodies → AllGoOn s.bodies → IsInBounds s n p x → IsInBounds s n (p + 1) (charged s x)
 charged_bounds s n p x short lead goes b =
     let P : Thread → Type 0 = IsInBounds s n (p + 1) in
-    by_test P (eqb x.left 0) _ _ (λ _. record { home = b.home; line = b.line; working = b.working; calling = b.calling; apart = b.apart; acts = b.acts; computed = omega (arith, b.computed) })
+    by_test P (eqb x.left 0) _ _ (λ _. record { home = b.home; line = b.line; working = b.working; calling = b.calling; apart = b.apart; acts = b.acts; idle = b.idle; computed = omega (arith, b.computed) })
     (λ some. by_test P (eqb x.left 1) _ _
     (λ one.
     let left : 0 < x.left = grind (arith, nat_tests) in
     let a = arrived_bounds s n p x (x.line + 1) short lead goes b.home (omega (arith, b.working left)) b.computed (b.apart left) in
-    record { home = a.home; line = a.line; working = a.working; calling = a.calling; apart = a.apart; acts = a.acts; computed = omega (arith, b.computed) })
-    (λ more. record { home = b.home; line = b.line; working = λ w. b.working (omega (arith, w)); calling = b.calling; apart = λ w. b.apart (omega (arith, w)); acts = λ none _. absurd (more_left x.left some more none); computed = omega (arith, b.computed) }))
+    record { home = a.home; line = a.line; working = a.working; calling = a.calling; apart = a.apart; acts = a.acts; idle = a.idle; computed = omega (arith, b.computed) })
+    (λ more. record { home = b.home; line = b.line; working = λ w. b.working (omega (arith, w)); calling = b.calling; apart = λ w. b.apart (omega (arith, w)); acts = λ none _. absurd (more_left x.left some more none); idle = b.idle; computed = omega (arith, b.computed) }))
 
 later_bounds : (s : Scenario) (n p : ℕ) (x : Thread) → IsInBounds s n p x → IsInBounds s n (p + 1) x
-later_bounds s n p x b = record { home = b.home; line = b.line; working = b.working; calling = b.calling; apart = b.apart; acts = b.acts; computed = omega (arith, b.computed) }
+later_bounds s n p x b = record { home = b.home; line = b.line; working = b.working; calling = b.calling; apart = b.apart; acts = b.acts; idle = b.idle; computed = omega (arith, b.computed) }
 
 charge_bounds : (k : Plain) (n t : ℕ) (ts : List Thread) → AllByRecursion (λ (body : Body). length body.lines ≤ 1000) k.scenario.bodies → AllLead k.scenario.bodies → AllGoOn k.scenario.bodies → AllByRecursion (IsInBounds k.scenario n k.present) ts → AllByRecursion (IsInBounds k.scenario n (k.present + 1)) (charge_from k t ts)
 unfolding ticked
@@ -117,4 +118,5 @@ sound_pass k sound below = record {
   ops = sound.ops;
   threads = All-from_recursion (IsInBounds k.scenario (length k.clusters) (k.present + 1)) _ (charge_bounds k (length k.clusters) 1 k.threads sound.bodies sound.targets sound.ops (recursion_from_All (IsInBounds k.scenario (length k.clusters) k.present) k.threads sound.threads));
   clusters = sound_clusters k 0 k.clusters sound.clusters;
+  named = record { split = sound.named.split; live = λ t. sound.named.live t ∙ ap (λ b. cond b 1 0) (sym (passed_steady (λ (x : Thread). is_live x.life) k t (λ _ _ _ _. refl))) };
 }

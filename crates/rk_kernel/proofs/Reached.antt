@@ -16,7 +16,7 @@ use Rattle.rk_model.specs.Scenarios.{IsScenario}
 use Rattle.rk_model.proofs.Limits.{limits_of}
 use Rattle.rk_kernel.specs.Firing.{due_now}
 use Rattle.rk_kernel.specs.Sound.{IsSound, IsGentle}
-use Rattle.rk_kernel.proofs.Callers.{caller_waits_not, caller_works_not, caller_within}
+use Rattle.rk_kernel.proofs.Callers.{caller_started, caller_waits_not, caller_works_not, caller_within}
 use Rattle.rk_kernel.proofs.Sleeping.{action_gentle}
 use Rattle.rk_kernel.proofs.Soundness.{sound_settled, length-kept, length-settled}
 use Rattle.rk_kernel.proofs.Passing.{sound_pass}
@@ -66,7 +66,7 @@ of_processor : (P : Plain → Type 0) → IsKept P → (k : Plain) (p : ℕ) (o 
 of_processor P kept k p None is both = tt
 of_processor P kept k p (Some t) is both =
     let w = caller_within k p t both.0 is in
-    let gentle = action_gentle k t both.0 w.0 (omega (arith, w.1, both.0.places)) (caller_waits_not k p t both.0 is) (caller_works_not k p t is) in
+    let gentle = action_gentle k t both.0 w.0 (omega (arith, w.1, both.0.places)) (caller_started k p t both.0 is) (caller_waits_not k p t both.0 is) (caller_works_not k p t is) in
     both_settled P kept k (action k t).next (action k t).last gentle both
 
 of_clock : (P : Plain → Type 0) → IsKept P → (k : Plain) (o : Option ℕ) → Both P k → AllNext (Both P) (clock_of k o)

@@ -97,4 +97,5 @@ sound_settled k next last sound gentle =
       ops = rw gentle.scenario sound.ops;
       threads = rw (length-settled, same_length, gentle.present, gentle.scenario) gentle.threads;
       clusters = all_sound k next last (settle k next last).clusters 0 k.clusters next.clusters gentle sound.clusters gentle.lines gentle.timers;
+      named = gentle.named;
     }

@@ -4,9 +4,10 @@ use Rattle.std.specs.List.{slice_set, slice_index_or}
 use Rattle.rk_model.specs.declared.state.Thread.{Thread}
 use Rattle.rk_model.specs.declared.state.Armed.{Armed}
 use Rattle.rk_model.specs.Lists.{times}
-use Rattle.rk_model.specs.State.{Plain, ClusterState, no_cluster, no_thread, thread_at, put_thread}
+use Rattle.rk_model.specs.Names.{Names}
+use Rattle.rk_model.specs.State.{Plain, ClusterState, no_cluster, no_thread, thread_at, put_thread, cluster_at}
 use Rattle.rk_model.specs.Timers.{sleepers}
-use Rattle.rk_kernel.specs.Sound.{AllSound, AllTimed, KeepsLines, is_timed, has_time}
+use Rattle.rk_kernel.specs.Sound.{IsSound, AllSound, AllTimed, KeepsLines, is_timed, has_time}
 use Rattle.rk_kernel.proofs.Tests.{and_false}
 use Rattle.rk_kernel.proofs.Indices.{nth-with_kept}
 
@@ -79,3 +80,13 @@ never_timed k c t none = rw none (and_false (eqb (thread_at k t).home c))
 pub is_timed-with_clusters : (k : Plain) (clusters : List ClusterState) (d u : ℕ) → is_timed (record k { clusters = clusters }) d u ≡ is_timed k d u
 unfolding is_timed
 is_timed-with_clusters k clusters d u = refl
+
+pub is_timed-with_parts : (k : Plain) (clusters : List ClusterState) (tasks : Names) (d u : ℕ) → is_timed (record k { clusters = clusters; tasks = tasks }) d u ≡ is_timed k d u
+unfolding is_timed
+is_timed-with_parts k clusters tasks d u = refl
+
+-- the timers of a cluster
+pub timers_of : (k : Plain) (h : ℕ) → IsSound k → h < length k.clusters → (u : ℕ) → times u (sleepers (cluster_at k h).timers) ≡ cond (is_timed k h u) 1 0
+timers_of k h sound within u =
+    let e : 0 + h ≡ h = omega arith in
+    rw e at (timers_at k 0 h k.clusters within sound.clusters u)

@@ -1,6 +1,7 @@
 pub mod Pieces
 pub mod Registers
 pub mod Settleable
+pub mod Named
 pub mod Sound
 pub mod Firing
 pub mod Noted

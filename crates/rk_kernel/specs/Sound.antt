@@ -4,18 +4,19 @@ use Rattle.std.specs.List.{range_with_len, AllByRecursion}
 use Rattle.rk_model.specs.declared.scenario.Scenario.{Scenario}
 use Rattle.rk_model.specs.declared.scenario.Body.{Body}
 use Rattle.rk_model.specs.declared.scenario.Op.{Op}
-use Rattle.rk_model.specs.declared.scenario.Op.TheVariants.{Work, Goto, TaskSuspend, TaskResume, TaskWakeAfter}
+use Rattle.rk_model.specs.declared.scenario.Op.TheVariants.{Work, Goto, TaskCreate, TaskIdent, TaskStart, TaskSuspend, TaskResume, TaskSetPriority, TaskDelete, TaskWakeAfter}
 use Rattle.rk_model.specs.declared.state.Thread.{Thread}
 use Rattle.rk_model.specs.declared.entry.Reply.{Reply}
 use Rattle.rk_model.specs.declared.state.Wait.{Wait}
 use Rattle.rk_model.specs.declared.state.Wait.TheVariants.{ForTime}
 use Rattle.rk_model.specs.Lists.{has, times}
 use Rattle.rk_model.specs.State.{Plain, ClusterState, thread_at, op_at}
-use Rattle.rk_model.specs.Priorities.{is_eligible}
+use Rattle.rk_model.specs.Priorities.{is_started, is_eligible}
 use Rattle.rk_model.specs.Lines.{has_cpu}
 use Rattle.rk_model.specs.Running.{cpu_count}
 use Rattle.rk_model.specs.Timers.{sleepers}
 use Rattle.rk_model.specs.Limits.{LeadsWithin, GoesOn}
+use Rattle.rk_kernel.specs.Named.{AreNamed}
 
 -- whether a thread is eligible and of this home
 unfoldable pub stands : Plain → ℕ → ℕ → Bool
@@ -60,8 +61,13 @@ abbrev pub has_action : Option Op → Bool
 has_action None = true
 has_action (Some (Work n)) = false
 has_action (Some (Goto target)) = false
+has_action (Some (TaskCreate name prio var)) = true
+has_action (Some (TaskIdent name var)) = true
+has_action (Some (TaskStart id body)) = true
 has_action (Some (TaskSuspend id)) = true
 has_action (Some (TaskResume id)) = true
+has_action (Some (TaskSetPriority id prio var)) = true
+has_action (Some (TaskDelete id)) = true
 has_action (Some (TaskWakeAfter n)) = true
 
 -- a thread's home, place and counts are within their limits
@@ -73,6 +79,8 @@ pub record IsInBounds (s : Scenario) (clusters present : ℕ) (thread : Thread) 
   pub apart : 0 < thread.left → is_in_call thread.wait thread.finished ≡ false
   -- with no work left, and in no directive that waits, it is where there is an action
   pub acts : thread.left ≡ 0 → is_in_call thread.wait thread.finished ≡ false → has_action (op_at s thread.body thread.line) ≡ true
+  -- one that isn't started, or has ended, is in no directive that waits
+  pub idle : is_started thread.life ≡ false → is_in_call thread.wait thread.finished ≡ false
   pub computed : thread.computed ≤ present
 
 -- each goto of these bodies leads to a line from 1 to 1,000
@@ -83,7 +91,7 @@ AllLead bodies = AllByRecursion (λ (body : Body). AllByRecursion LeadsWithin bo
 abbrev pub AllGoOn : List Body → Type 0
 AllGoOn bodies = AllByRecursion (λ (body : Body). AllByRecursion (GoesOn body.lines) body.lines) bodies
 
--- A state that a run may reach: sizes and numbers are within their limits, each thread is in bounds, and each cluster is sound.
+-- A state that a run may reach: sizes and numbers are within their limits, each thread is in bounds, each cluster is sound, and names and threads agree.
 pub record IsSound (k : Plain) : Type 0 where
   pub places : length k.threads ≡ 64
   pub few_clusters : length k.clusters ≤ 4
@@ -96,6 +104,7 @@ pub record IsSound (k : Plain) : Type 0 where
   pub ops : AllGoOn k.scenario.bodies
   pub threads : All (IsInBounds k.scenario (length k.clusters) k.present) k.threads
   pub clusters : AllSound k 0 k.clusters
+  pub named : AreNamed k.tasks k.threads
 
 -- Each cluster has its line and its processors as before.
 abbrev pub KeepsLines : List ClusterState → List ClusterState → Type 0
@@ -118,3 +127,4 @@ pub record IsGentle (k next : Plain) : Type 0 where
   pub threads : All (IsInBounds k.scenario (length k.clusters) k.present) next.threads
   pub lines : KeepsLines k.clusters next.clusters
   pub timers : AllTimed next 0 next.clusters
+  pub named : AreNamed next.tasks next.threads

@@ -1,3 +1,4 @@
+use crate::task_ids::TaskIds;
 use rk_cluster::{Cluster, Moves};
 use rk_model::{Armed, Bounded, Items, Scenario, Standing, Thread, ThreadIx};
 
@@ -25,6 +26,8 @@ pub struct Core {
     pub clusters: Items<ClusterPart>,
     /// The places of 64 threads.
     pub threads: Items<Thread>,
+    /// The names and the indices of the tasks.
+    pub tasks: TaskIds,
 }
 
 /// Room for what settling notes and makes.

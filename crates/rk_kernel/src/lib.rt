@@ -1,6 +1,7 @@
 //! The kernel of one thread: its parts, and their steps.
 #![tactic(auto)]
 
+mod answers;
 mod clock;
 mod core_state;
 mod directives;
@@ -11,6 +12,8 @@ mod places;
 mod settle;
 mod standing;
 mod steps;
+mod task_ids;
+mod tasks;
 mod timers;
 
 pub use kernel::{

@@ -1,5 +1,8 @@
 ghost use Rattle.std.specs.Prelude.{◌≡◌, ◌<◌, ◌≤◌, ◌+◌, ℕ, length, [], IfOk, map};
-ghost use Rattle.rk_model.specs.Histories.{begun, places, free_cluster, vacant, opening};
+ghost use Rattle.std.specs.List.{AllByRecursion};
+ghost use Rattle.rk_model.specs.declared.scenario.Init.{Init as InitLine};
+ghost use Rattle.rk_model.specs.Names.{no_names};
+ghost use Rattle.rk_model.specs.Histories.{begun, places, free_cluster, vacant, begun_names, opening};
 ghost use Rattle.rk_model.specs.Limits.{IsWithinLimits};
 ghost use Rattle.rk_model.specs.Scenarios.{cpus_in};
 ghost use Rattle.rk_kernel.specs.Noted.{IsNoted};
@@ -10,6 +13,7 @@ use crate::core_state::{ClusterPart, Core, Line, Scratch, Timers};
 use crate::places::arrive;
 use crate::settle::settle_core;
 use crate::standing::note_all;
+use crate::task_ids::TaskIds;
 use rk_cluster::{Cluster, Moves};
 use rk_model::{Body, Init, Items, Life, NoMemory, Prio, Scenario, Standing, Thread};
 use std::alloc::Global;
@@ -95,6 +99,7 @@ fn make_vacant(alloc: Global, scenario: &Scenario) -> Result<Core, NoMemory>
         present: 0,
         clusters: Items::from_vec(clusters),
         threads: make_places(alloc)?,
+        tasks: TaskIds::new(alloc)?,
     })
 }
 
@@ -122,6 +127,18 @@ fn start_all(threads: &mut Items<Thread>, scenario: &Scenario)
 {
     for at in 0..scenario.inits.len() {
         threads.set(at, begin(scenario, &scenario.inits.at(at)));
+    }
+}
+
+/// Names the tasks of the init lines, which take the first indices.
+fn name_all(tasks: &mut TaskIds, inits: &[Init])
+    requires none { tasks.old ≡ no_names }
+    requires few { length inits.now ≤ 64 }
+    requires named { AllByRecursion (λ (init : InitLine). 1 ≤ init.name.bits) inits.now }
+    ensures { tasks.new ≡ begun_names inits.now }
+{
+    for at in 0..inits.len() {
+        tasks.make(inits[at].name);
     }
 }
 
@@ -163,6 +180,7 @@ pub(crate) fn make_opening(
     let mut core = make_vacant(alloc, scenario)?;
     note_all(&mut scratch.before, &core);
     start_all(&mut core.threads, scenario);
+    name_all(&mut core.tasks, scenario.inits.as_slice());
     settle_core(&mut core, scratch);
     Ok(core)
 }

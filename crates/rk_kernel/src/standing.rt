@@ -53,7 +53,7 @@ fn prio_of(core: &Core, thread: ThreadIx, cluster: u8) -> Option<Prio>
 
 /// The priority of the thread in its home; the least urgent one where it has none.
 #[tactic(auto, unfolding(rk_model::specs::Priorities::home_prio))]
-fn prio_at_home(core: &Core, thread: ThreadIx) -> Prio
+pub(crate) fn prio_at_home(core: &Core, thread: ThreadIx) -> Prio
     ensures { result ≡ home_prio (plain_of core.now) thread }
 {
     let home = thread_of(core.threads.as_slice(), thread).home;

@@ -1,8 +1,8 @@
 ghost use Rattle.std.specs.Prelude.{◌≡◌, ◌<◌, ◌≤◌, ◌+◌, ◌-◌, ◌++◌, ◌∷◌, [], ℕ, length};
 ghost use Rattle.rk_model.specs.State.{cluster_at};
-ghost use Rattle.rk_model.specs.Timers.{arm, due_at, without_due, take_due, thread_of};
+ghost use Rattle.rk_model.specs.Timers.{arm, cancel, due_at, without_due, take_due, thread_of};
 ghost use Rattle.rk_kernel.specs.Pieces.{plain_of};
-ghost use Rattle.rk_kernel.specs.Firing.{head_of};
+ghost use Rattle.rk_kernel.specs.Firing.{head_of, without_thread};
 
 use crate::core_state::{Core, Timers};
 use rk_model::{Armed, Armer, ThreadIx};
@@ -14,6 +14,28 @@ pub(crate) fn arm_timer(core: &mut Core, cluster: u8, who: Armer, due: u64)
     ensures { plain_of core.new ≡ arm (plain_of core.old) cluster (record { who = who; due = due }) }
 {
     add(&mut core.clusters.at_mut(cluster as usize).timers, who, due);
+}
+
+/// Cancels the timer of a thread in a cluster, if it has one.
+pub(crate) fn cancel_timer(core: &mut Core, cluster: u8, thread: ThreadIx)
+    requires { cluster < length core.old.clusters }
+    ensures { plain_of core.new ≡ cancel (plain_of core.old) cluster thread }
+{
+    remove(&mut core.clusters.at_mut(cluster as usize).timers, thread);
+}
+
+/// Takes out the timers of a thread.
+fn remove(timers: &mut Timers, thread: ThreadIx)
+    ensures { timers.new ≡ without_thread thread timers.old }
+{
+    let mut at = 0;
+    'looking: while at < timers.len() {
+        if thread_of_timer(timers.as_slice()[at].who) == thread {
+            timers.take(at);
+        } else {
+            at += 1;
+        }
+    }
 }
 
 /// Adds a timer as the last.

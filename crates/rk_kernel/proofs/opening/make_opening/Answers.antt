@@ -1,8 +1,9 @@
 use Rattle.std.proofs.Common.{List, [], length, ap, ◌∙◌}
 use Rattle.rk_model.specs.declared.state.Thread.{Thread}
+use Rattle.rk_model.specs.Names.{Names}
 use Rattle.rk_model.specs.State.{Plain}
 use Rattle.rk_model.specs.Priorities.{standings}
-use Rattle.rk_model.specs.Histories.{vacant, started}
+use Rattle.rk_model.specs.Histories.{vacant, started, begun_names}
 use Rattle.rk_kernel.proofs.Openings.{sound_vacant, gentle_started}
 use Rattle.rk_kernel.proofs.Ready.{ready, settled_next, settled_sound}
 use Rattle.rk_kernel.proofs.opening.make_opening.Goals as goal
@@ -10,19 +11,19 @@ use Rattle.rk_kernel.proofs.opening.make_opening.Goals as goal
 pub settle_core-requires : goal.settle_core-requires
 settle_core-requires c =
     let s = c.args.scenario.now in
-    let is = ap (λ (k : Plain). record k { threads = c.start_all.new.threads }) c.in_ok-core.ensures ∙ ap (λ (ts : List Thread). record (vacant s) { threads = ts }) c.start_all.ensures in
+    let is = ap (λ (k : Plain). record k { threads = c.start_all.new.threads; tasks = c.name_all.new.tasks }) c.in_ok-core.ensures ∙ ap (λ (ts : List Thread). record (vacant s) { threads = ts; tasks = c.name_all.new.tasks }) c.start_all.ensures ∙ ap (λ (n : Names). record (started s) { tasks = n }) (c.name_all.ensures ∙ ap begun_names c.as_slice.ensures) in
     let stands = c.note_all.ensures ∙ ap standings c.in_ok-core.ensures in
-    let r = ready (vacant s) (started s) (record c.in_ok-core.core { threads = c.start_all.new.threads }) c.note_all.new.out (sound_vacant s c.requires.limits) (gentle_started s c.requires.limits) is stands in
+    let r = ready (vacant s) (started s) (record c.in_ok-core.core { threads = c.start_all.new.threads; tasks = c.name_all.new.tasks }) c.note_all.new.out (sound_vacant s c.requires.limits) (gentle_started s c.requires.limits) is stands in
     record { places = r.places; before = r.before; now = c.requires.now; clusters = r.clusters; lines = r.lines }
 
 pub returns : goal.returns
 returns c =
     let s = c.args.scenario.now in
-    let before = record c.in_ok-core.core { threads = c.start_all.new.threads } in
+    let before = record c.in_ok-core.core { threads = c.start_all.new.threads; tasks = c.name_all.new.tasks } in
     let after = c.settle_core.new.core in
     let stood = c.note_all.new.out in
     let last = c.args.scratch.now.last in
-    let is = ap (λ (k : Plain). record k { threads = c.start_all.new.threads }) c.in_ok-core.ensures ∙ ap (λ (ts : List Thread). record (vacant s) { threads = ts }) c.start_all.ensures in
+    let is = ap (λ (k : Plain). record k { threads = c.start_all.new.threads; tasks = c.name_all.new.tasks }) c.in_ok-core.ensures ∙ ap (λ (ts : List Thread). record (vacant s) { threads = ts; tasks = c.name_all.new.tasks }) c.start_all.ensures ∙ ap (λ (n : Names). record (started s) { tasks = n }) (c.name_all.ensures ∙ ap begun_names c.as_slice.ensures) in
     let stands = c.note_all.ensures ∙ ap standings c.in_ok-core.ensures in
     let sound = sound_vacant s c.requires.limits in
     record {

@@ -1,0 +1,10 @@
+use Rattle.std.proofs.Common.{sym}
+use Rattle.rk_kernel.specs.Pieces.{plain_of}
+use Rattle.rk_kernel.proofs.Naming.{live_named}
+use Rattle.rk_kernel.proofs.Tasking.{named_lives}
+use Rattle.rk_kernel.proofs.tasks.delete_task.Goals as goal
+
+pub remove_task-requires-clause-lives : goal.remove_task-requires-clause-lives
+remove_task-requires-clause-lives c =
+    let k = plain_of c.args.core.now in
+    (live_named k.tasks k.threads c.in-Some.task c.requires.sound.named (named_lives k c.args.caller c.args.id c.in-Some.task c.requires.live (sym c.in-Some.ensures))).named
