@@ -31,3 +31,5 @@ pub mod Seats
 pub mod Ranking
 pub mod Manning
 pub mod Acting
+pub mod Stillness
+pub mod Refusing

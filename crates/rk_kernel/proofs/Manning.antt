@@ -48,7 +48,7 @@ pub runs_once : (k : Plain) (key : ℕ → ℕ) (c m : ℕ) (line : List ℕ) �
 runs_once k key c m line held t = omega (arith, times-most_urgent key m line t, held t, own_once k c t)
 
 -- the register says of each index what the priority of the thread there is
-prio_noted : (k : Plain) (t : ℕ) → (nth_standing (standings k) t).prio ≡ home_prio k t
+pub prio_noted : (k : Plain) (t : ℕ) → (nth_standing (standings k) t).prio ≡ home_prio k t
 unfolding standing home_prio prio
 prio_noted k zero = refl
 prio_noted k (suc i) =
@@ -80,7 +80,7 @@ all_manned k next last key c (a ∷ olds) [] gentle sound manned keeps = absurd 
 all_manned k next last key c (a ∷ olds) (b ∷ news) gentle sound manned keeps =
     (manned_settled k next last key c a b gentle sound.0 manned.0 keeps.0 keeps.1, all_manned k next last key (c + 1) olds news gentle sound.1 manned.1 keeps.2)
 
-other_key : (key key' : ℕ → ℕ) (clusters : List ClusterState) → ((t : ℕ) → key t ≡ key' t) → AllManned key clusters → AllManned key' clusters
+pub other_key : (key key' : ℕ → ℕ) (clusters : List ClusterState) → ((t : ℕ) → key t ≡ key' t) → AllManned key clusters → AllManned key' clusters
 other_key key key' clusters same manned = let e : key ≡ key' = λ i t. same t i in subst (λ (f : ℕ → ℕ). AllManned f clusters) e manned
 
 home_prio-pass : (k : Plain) (t : ℕ) → home_prio k t ≡ home_prio (pass k) t

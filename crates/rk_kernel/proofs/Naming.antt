@@ -12,6 +12,7 @@ use Rattle.rk_model.specs.State.{no_thread}
 use Rattle.rk_model.specs.Tasks.{is_live}
 use Rattle.rk_model.proofs.Counts.{same_either_way, times-append, has_times}
 use Rattle.rk_ids.specs.Objects.{IsSplit}
+use Rattle.rk_ids.proofs.Splits.{live_within, split_taken, split_given}
 use Rattle.rk_kernel.specs.Named.{AreNamed}
 use Rattle.rk_kernel.proofs.Indices.{nth-with_same, nth-with_other, nth-with_kept}
 
@@ -29,7 +30,7 @@ pub record IsFree (tasks : Names) (threads : List Thread) (index : ℕ) : Type 0
   pub unnamed : times index (indices tasks.live) ≡ 0
   pub absent : is_live (nth no_thread threads index).life ≡ false
 
-pub split_within : (i n : ℕ) (low high : Bool) → nat_le 1 i ≡ low → nat_le i 64 ≡ high → n + 1 ≤ cond (low && high) 1 0 → (1 ≤ i) × (i ≤ 64) × (n ≡ 0)
+split_within : (i n : ℕ) (low high : Bool) → nat_le 1 i ≡ low → nat_le i 64 ≡ high → n + 1 ≤ cond (low && high) 1 0 → (1 ≤ i) × (i ≤ 64) × (n ≡ 0)
 split_within i n true true a b few =
     let low : 1 ≤ i = grind (arith, nat_tests, a) in
     let high : i ≤ 64 = grind (arith, nat_tests, b) in
@@ -42,7 +43,7 @@ not_live true n e none = absurd (omega (arith, e, none))
 not_live false n e none = refl
 
 -- the first free index is one of the 64, and no task of it lives
-pub first_within : (tasks : Names) (index : ℕ) (free : List ℕ) → IsSplit tasks → tasks.free ≡ index ∷ free → (1 ≤ index) × (index ≤ 64) × (times index (indices tasks.live) ≡ 0)
+first_within : (tasks : Names) (index : ℕ) (free : List ℕ) → IsSplit tasks → tasks.free ≡ index ∷ free → (1 ≤ index) × (index ≤ 64) × (times index (indices tasks.live) ≡ 0)
 first_within tasks index free split is =
     let here : (index == index) ≡ true = grind (arith, nat_tests) in
     let more : times index tasks.free ≡ 1 + times index free = ap (times index) is ∙ ap (λ b. cond b 1 0 + times index free) here in
@@ -57,14 +58,12 @@ first_free tasks threads index free named is =
 -- a task of an index from 1 to 64 that wasn't used lives then
 pub named_made : (tasks : Names) (threads : List Thread) (index : ℕ) (free : List ℕ) (name : ℕ) (thread : Thread) → AreNamed tasks threads → length threads ≡ 64 → tasks.free ≡ index ∷ free → is_live thread.life ≡ true → AreNamed (taken tasks index free name) (with_nth threads index thread)
 named_made tasks threads index free name thread named size is life =
-    let f = first_free tasks threads index free named is in
     let object : Named = record { index = index; name = record { bits = name } } in
     let more : indices (tasks.live ++ object ∷ []) ≡ indices tasks.live ++ index ∷ [] = map_push (λ (x : Named). x.index) tasks.live object in
     let count : (u : ℕ) → times u (indices (tasks.live ++ object ∷ [])) ≡ times u (indices tasks.live) + cond (index == u) 1 0 = λ u.
     let e : times u (indices (tasks.live ++ object ∷ [])) ≡ times u (indices tasks.live) + times u (index ∷ []) = ap (times u) more ∙ times-append u (indices tasks.live) (index ∷ []) in omega (arith, e) in
     record {
-      split = λ u. let s : times u (indices tasks.live) + (cond (index == u) 1 0 + times u free) ≡ cond (nat_le 1 u && nat_le u 64) 1 0 = ap (λ (xs : List ℕ). times u (indices tasks.live) + times u xs) (sym is) ∙ named.split u in
-          omega (arith, count u, s);
+      split = split_taken tasks.live tasks.free free index name named.split is;
       live = λ u. count u ∙ by u (index == u) refl;
     } where
       by : (u : ℕ) (b : Bool) → (index == u) ≡ b → times u (indices tasks.live) + cond b 1 0 ≡ cond (is_live (nth no_thread (with_nth threads index thread) u).life) 1 0
@@ -83,14 +82,14 @@ named_made tasks threads index free name thread named size is life =
 pub record IsLive (tasks : Names) (index : ℕ) : Type 0 where
   pub low : 1 ≤ index
   pub high : index ≤ 64
-  pub once : times index (indices tasks.live) ≡ 1
   pub named : lives tasks index ≡ true
 
 pub live_named : (tasks : Names) (threads : List Thread) (index : ℕ) → AreNamed tasks threads → is_live (nth no_thread threads index).life ≡ true → IsLive tasks index
 live_named tasks threads index named life =
     let one : times index (indices tasks.live) ≡ 1 = named.live index ∙ ap (λ b. cond b 1 0) life in
-    let w = split_within index (times index tasks.free) (nat_le 1 index) (nat_le index 64) refl refl (omega (arith, named.split index, one)) in
-    record { low = w.0; high = w.1; once = one; named = has_times index (indices tasks.live) (omega (arith, one)) }
+    let is = has_times index (indices tasks.live) (omega (arith, one)) in
+    let w = live_within tasks index named.split is in
+    record { low = w.0; high = w.1; named = is }
 
 -- the indices of all but one
 indices_without : (v u : ℕ) (live : List Named) → times v (indices (filter (λ (object : Named). not (object.index == u)) live)) ≡ cond (u == v) 0 (times v (indices live))
@@ -101,19 +100,9 @@ indices_without v u (object ∷ live) = grind (arith, nat_tests, indices_without
 pub named_removed : (tasks : Names) (threads : List Thread) (u : ℕ) (thread : Thread) → AreNamed tasks threads → length threads ≡ 64 → is_live (nth no_thread threads u).life ≡ true → is_live thread.life ≡ false → AreNamed (given_back tasks u) (with_nth threads u thread)
 named_removed tasks threads u thread named size life gone =
     record {
-      split = λ v. split_by v (u == v) refl (indices_without v u tasks.live);
+      split = split_given tasks.live tasks.free u named.split (live_named tasks threads u named life).named;
       live = λ v. indices_without v u tasks.live ∙ live_by v (u == v) refl;
     } where
-      split_by : (v : ℕ) (b : Bool) → (u == v) ≡ b → times v (indices (given_back tasks u).live) ≡ cond b 0 (times v (indices tasks.live)) → times v (indices (given_back tasks u).live) + times v (tasks.free ++ u ∷ []) ≡ cond (nat_le 1 v && nat_le v 64) 1 0
-      split_by v true e count =
-          let same : u ≡ v = grind (arith, nat_tests, e) in
-          let one : times v (indices tasks.live) ≡ 1 = ap (λ w. times w (indices tasks.live)) (sym same) ∙ (live_named tasks threads u named life).once in
-          let last : times v (u ∷ []) ≡ 1 = ap (λ b. cond b 1 0 + 0) e in
-          omega (arith, named.split v, times-append v tasks.free (u ∷ []), one, last, count)
-      split_by v false e count =
-          let last : times v (u ∷ []) ≡ 0 = ap (λ b. cond b 1 0 + 0) e in
-          omega (arith, named.split v, times-append v tasks.free (u ∷ []), last, count)
-
       live_by : (v : ℕ) (b : Bool) → (u == v) ≡ b → cond b 0 (times v (indices tasks.live)) ≡ cond (is_live (nth no_thread (with_nth threads u thread) v).life) 1 0
       live_by v true e =
           let same : u ≡ v = grind (arith, nat_tests, e) in

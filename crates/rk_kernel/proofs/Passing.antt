@@ -42,7 +42,7 @@ pub length-charge_from : (k : Plain) (t : ℕ) (ts : List Thread) → length (ch
 length-charge_from k t [] = refl
 length-charge_from k t (x ∷ xs) = omega (arith, length-charge_from k (t + 1) xs)
 
-spins_alike : (k n : Plain) (wait : Option Wait) → spins_in n wait ≡ spins_in k wait
+pub spins_alike : (k n : Plain) (wait : Option Wait) → spins_in n wait ≡ spins_in k wait
 spins_alike k n None = refl
 spins_alike k n (Some ForTime) = refl
 

@@ -64,12 +64,12 @@ seats_kept running t [] = same_either_way (has running t) 0
 seats_kept running t (None ∷ old) = seats_kept running t old
 seats_kept running t (Some u ∷ old) = kept_by running u t (seats t old) (map (kept running) old) (has running u) refl (eqb u t) refl (seats_kept running t old)
 
-has_seat : (t : ℕ) (cpus : List (Option ℕ)) → has_cpu cpus t ≡ true → 0 < seats t cpus
+pub has_seat : (t : ℕ) (cpus : List (Option ℕ)) → has_cpu cpus t ≡ true → 0 < seats t cpus
 has_seat t [] h = absurd (false≢true h)
 has_seat t (None ∷ cpus) h = has_seat t cpus h
 has_seat t (Some u ∷ cpus) h = grind (arith, nat_tests, h, has_seat t cpus)
 
-no_seat : (t : ℕ) (cpus : List (Option ℕ)) → has_cpu cpus t ≡ false → seats t cpus ≡ 0
+pub no_seat : (t : ℕ) (cpus : List (Option ℕ)) → has_cpu cpus t ≡ false → seats t cpus ≡ 0
 no_seat t [] h = refl
 no_seat t (None ∷ cpus) h = no_seat t cpus h
 no_seat t (Some u ∷ cpus) h = grind (arith, nat_tests, h, no_seat t cpus)

@@ -2,7 +2,7 @@
 //!
 //! Each speaks of the state after any legal history of a scenario.
 
-ghost use Rattle.rk_kernel.specs.Laws.{LinesHoldTheirOwn, ProcessorsHaveTheRunners, RunnersAreTheMostUrgent, NoneRunsTwice, NoneActsAtWork};
+ghost use Rattle.rk_kernel.specs.Laws.{LinesHoldTheirOwn, ProcessorsHaveTheRunners, RunnersAreTheMostUrgent, NoneRunsTwice, NoneActsAtWork, RefusalsChangeTheCallerAlone};
 
 /// The line of each cluster holds exactly the eligible threads of that home, each once.
 pub fn lines_hold_their_own()
@@ -29,4 +29,10 @@ pub fn none_runs_twice()
 /// return from one is at another line, or behind the last.
 pub fn none_acts_at_work()
     ensures { NoneActsAtWork }
+{}
+
+/// A directive that refuses changes the caller alone: its thread has gone on to its next line, with 0
+/// in the directive's result variable, where it has one, and nothing else of the state changed.
+pub fn refusals_change_the_caller_alone()
+    ensures { RefusalsChangeTheCallerAlone }
 {}

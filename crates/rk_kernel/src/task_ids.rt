@@ -59,8 +59,7 @@ impl TaskIds {
     /// Gives the first free index to a task of this name, and answers it; `None` exactly where 64
     /// tasks live, and then nothing changes.
     pub(crate) fn make(&mut self, name: Name) -> Option<ThreadIx>
-        requires name { 1 ≤ name.bits }
-        requires split { IsSplit self.old }
+        requires { 1 ≤ name.bits }
         ensures { Takes self.old.free result name.bits self.old self.new }
     {
         match self.ids.make(name) {

@@ -81,7 +81,6 @@ pub(crate) fn create_task(
     requires none { last.old ≡ [] }
     requires line { (thread_at (plain_of core.old) caller).line ≤ 1001 }
     requires targets { AllLead core.old.scenario.bodies }
-    requires split { IsSplit core.old.tasks }
     ensures { Does (task_create (plain_of core.old) caller name.bits prio var) result (plain_of core.new) last.new }
 {
     if name.bits == 0 {
