@@ -6,7 +6,7 @@ ghost use Rattle.rk_kernel.specs.Does.{Does};
 ghost use Rattle.rk_kernel.specs.Pieces.{plain_of};
 ghost use Rattle.rk_kernel.specs.Sound.{AllLead};
 
-use crate::core_state::{Core, Line};
+use crate::core_state::{Core, Threads};
 use crate::places::{arrive, put};
 use crate::standing::thread_of;
 use rk_model::{Reply, Status, Thread, ThreadIx, Wait};
@@ -33,7 +33,7 @@ fn advance(core: &mut Core, caller: ThreadIx)
 /// Moves the caller on to its next line, and answers with a status.
 pub(crate) fn answer_caller(
     core: &mut Core,
-    last: &mut Line,
+    last: &mut Threads,
     caller: ThreadIx,
     status: Status,
 ) -> Reply
@@ -72,7 +72,7 @@ fn store(core: &mut Core, thread: ThreadIx, var: u8, value: u32)
 /// answers with a status and that number.
 pub(crate) fn answer_with(
     core: &mut Core,
-    last: &mut Line,
+    last: &mut Threads,
     caller: ThreadIx,
     var: u8,
     status: Status,

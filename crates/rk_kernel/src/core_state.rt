@@ -3,7 +3,7 @@ use rk_cluster::{Cluster, Moves};
 use rk_model::{Armed, Bounded, Items, Scenario, Standing, Thread, ThreadIx};
 
 /// A list of threads.
-pub(crate) type Line = Bounded<ThreadIx, 64>;
+pub(crate) type Threads = Bounded<ThreadIx, 64>;
 
 /// The armed timers of a cluster's threads, of which each has at most one.
 pub(crate) type Timers = Bounded<Armed, 64>;
@@ -38,7 +38,7 @@ pub struct Scratch {
     /// How each thread stands after it.
     pub now: Items<Standing>,
     /// The threads that yielded or had their base priority set.
-    pub last: Line,
+    pub last: Threads,
     /// What settling does to the threads of a cluster.
     pub moves: Moves,
     /// The threads as a tick makes them anew.

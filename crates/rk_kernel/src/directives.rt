@@ -6,7 +6,7 @@ ghost use Rattle.rk_kernel.specs.Does.{Does};
 ghost use Rattle.rk_kernel.specs.Pieces.{plain_of};
 ghost use Rattle.rk_kernel.specs.Sound.{AllLead, IsSound};
 
-use crate::core_state::{Core, Line};
+use crate::core_state::{Core, Threads};
 use crate::places::{arrive, put};
 use crate::standing::thread_of;
 use crate::tasks::{
@@ -16,7 +16,7 @@ use crate::tasks::{
 use rk_model::{Op, Reply, Thread, ThreadIx};
 
 /// Lets the caller return from a directive that waited, and go on.
-fn return_task(core: &mut Core, last: &mut Line, caller: ThreadIx, reply: Reply) -> Reply
+fn return_task(core: &mut Core, last: &mut Threads, caller: ThreadIx, reply: Reply) -> Reply
     requires none { last.old ≡ [] }
     requires line { (thread_at (plain_of core.old) caller).line ≤ 1001 }
     requires targets { AllLead core.old.scenario.bodies }
@@ -34,7 +34,7 @@ fn return_task(core: &mut Core, last: &mut Line, caller: ThreadIx, reply: Reply)
 
 /// Does the next action of a thread, and gives its reply.
 #[tactic(auto, unfolding(rk_model::specs::Steps::action))]
-pub(crate) fn perform(core: &mut Core, last: &mut Line, caller: ThreadIx) -> Reply
+pub(crate) fn perform(core: &mut Core, last: &mut Threads, caller: ThreadIx) -> Reply
     requires none { last.old ≡ [] }
     requires sound { IsSound (plain_of core.old) }
     requires line { (thread_at (plain_of core.old) caller).line ≤ 1001 }

@@ -9,7 +9,7 @@ ghost use Rattle.rk_kernel.specs.Noted.{IsNoted};
 ghost use Rattle.rk_kernel.specs.Pieces.{cluster_of, clusters_of, plain_of};
 ghost use Rattle.rk_kernel.specs.Sound.{IsSound, AllLead};
 
-use crate::core_state::{ClusterPart, Core, Line, Scratch, Timers};
+use crate::core_state::{ClusterPart, Core, Scratch, Threads, Timers};
 use crate::places::arrive;
 use crate::settle::settle_core;
 use crate::standing::note_all;
@@ -156,7 +156,7 @@ pub(crate) fn make_scratch(alloc: Global) -> Result<Scratch, NoMemory>
     Ok(Scratch {
         before: Items::from_vec(vec![in alloc; none; 64]?),
         now: Items::from_vec(vec![in alloc; none; 64]?),
-        last: Line::new(alloc)?,
+        last: Threads::new(alloc)?,
         moves: Moves::new(alloc)?,
         threads: make_places(alloc)?,
     })

@@ -10,7 +10,7 @@ ghost use Rattle.rk_kernel.specs.Pieces.{plain_of};
 ghost use Rattle.rk_kernel.specs.Sound.{AllLead, IsSound};
 
 use crate::answers::{answer_caller, answer_with, bare, value_in, wait};
-use crate::core_state::{Core, Line};
+use crate::core_state::{Core, Threads};
 use crate::places::{arrive, put};
 use crate::standing::{prio_at_home, thread_of};
 use crate::task_ids::{id_of, index_of};
@@ -72,7 +72,7 @@ fn put_dormant(core: &mut Core, caller: ThreadIx, index: ThreadIx, base: Prio)
 /// to 255, and `TOO_MANY` where 64 tasks live; 0 is stored then.
 pub(crate) fn create_task(
     core: &mut Core,
-    last: &mut Line,
+    last: &mut Threads,
     caller: ThreadIx,
     name: Name,
     prio: u32,
@@ -102,7 +102,7 @@ pub(crate) fn create_task(
 /// answers `INVALID_NAME` where there is no such task; 0 is stored then.
 pub(crate) fn ident_task(
     core: &mut Core,
-    last: &mut Line,
+    last: &mut Threads,
     caller: ThreadIx,
     name: Name,
     var: u8,
@@ -145,7 +145,7 @@ fn start(core: &mut Core, task: ThreadIx, body: u8)
 /// `INVALID_ID` where the task is unknown, and `INCORRECT_STATE` where it isn't dormant.
 pub(crate) fn start_task(
     core: &mut Core,
-    last: &mut Line,
+    last: &mut Threads,
     caller: ThreadIx,
     id: Target,
     body: u8,
@@ -182,7 +182,12 @@ fn set_suspended(core: &mut Core, task: ThreadIx, suspended: bool)
 
 /// `task.suspend` (`rtems_task_suspend`): suspends a task, whose wait and timer go on. It answers
 /// `INVALID_ID` where the task is unknown, and `ALREADY_SUSPENDED` where it is suspended.
-pub(crate) fn suspend_task(core: &mut Core, last: &mut Line, caller: ThreadIx, id: Target) -> Reply
+pub(crate) fn suspend_task(
+    core: &mut Core,
+    last: &mut Threads,
+    caller: ThreadIx,
+    id: Target,
+) -> Reply
     requires none { last.old ≡ [] }
     requires line { (thread_at (plain_of core.old) caller).line ≤ 1001 }
     requires targets { AllLead core.old.scenario.bodies }
@@ -203,7 +208,12 @@ pub(crate) fn suspend_task(core: &mut Core, last: &mut Line, caller: ThreadIx, i
 
 /// `task.resume` (`rtems_task_resume`): lets a suspended task go on. It answers `INVALID_ID` where
 /// the task is unknown, and `INCORRECT_STATE` where it isn't suspended.
-pub(crate) fn resume_task(core: &mut Core, last: &mut Line, caller: ThreadIx, id: Target) -> Reply
+pub(crate) fn resume_task(
+    core: &mut Core,
+    last: &mut Threads,
+    caller: ThreadIx,
+    id: Target,
+) -> Reply
     requires none { last.old ≡ [] }
     requires line { (thread_at (plain_of core.old) caller).line ≤ 1001 }
     requires targets { AllLead core.old.scenario.bodies }
@@ -236,7 +246,7 @@ fn set_base(core: &mut Core, task: ThreadIx, base: Prio)
 /// is above 255; 0 is stored then.
 pub(crate) fn set_priority(
     core: &mut Core,
-    last: &mut Line,
+    last: &mut Threads,
     caller: ThreadIx,
     id: Target,
     prio: u32,
@@ -284,7 +294,12 @@ fn remove_task(core: &mut Core, task: ThreadIx)
 
 /// `task.delete` (`rtems_task_delete`): ends the life of a task; a caller that deletes itself doesn't
 /// go on. It answers `INVALID_ID` where the task is unknown.
-pub(crate) fn delete_task(core: &mut Core, last: &mut Line, caller: ThreadIx, id: Target) -> Reply
+pub(crate) fn delete_task(
+    core: &mut Core,
+    last: &mut Threads,
+    caller: ThreadIx,
+    id: Target,
+) -> Reply
     requires none { last.old ≡ [] }
     requires sound { IsSound (plain_of core.old) }
     requires live { is_live (thread_at (plain_of core.old) caller).life ≡ true }
@@ -304,7 +319,7 @@ pub(crate) fn delete_task(core: &mut Core, last: &mut Line, caller: ThreadIx, id
 }
 
 /// `task.exit` (`rtems_task_exit`): ends the task.
-pub(crate) fn exit_task(core: &mut Core, last: &mut Line, caller: ThreadIx) -> Reply
+pub(crate) fn exit_task(core: &mut Core, last: &mut Threads, caller: ThreadIx) -> Reply
     requires { last.old ≡ [] }
     ensures { Does (task_exit (plain_of core.old) caller) result (plain_of core.new) last.new }
 {
@@ -318,7 +333,7 @@ pub(crate) fn exit_task(core: &mut Core, last: &mut Line, caller: ThreadIx) -> R
 }
 
 /// Puts the caller at the end of its line.
-fn yield_task(core: &mut Core, last: &mut Line, caller: ThreadIx) -> Reply
+fn yield_task(core: &mut Core, last: &mut Threads, caller: ThreadIx) -> Reply
     requires none { last.old ≡ [] }
     requires line { (thread_at (plain_of core.old) caller).line ≤ 1001 }
     requires targets { AllLead core.old.scenario.bodies }
@@ -330,7 +345,7 @@ fn yield_task(core: &mut Core, last: &mut Line, caller: ThreadIx) -> Reply
 }
 
 /// Lets the caller wait for a time.
-fn sleep_task(core: &mut Core, last: &mut Line, caller: ThreadIx, ticks: u32) -> Reply
+fn sleep_task(core: &mut Core, last: &mut Threads, caller: ThreadIx, ticks: u32) -> Reply
     requires none { last.old ≡ [] }
     requires home { (thread_at (plain_of core.old) caller).home < length core.old.clusters }
     requires room { length (cluster_at (plain_of core.old) (thread_at (plain_of core.old) caller).home).timers < 64 }
@@ -344,7 +359,7 @@ fn sleep_task(core: &mut Core, last: &mut Line, caller: ThreadIx, ticks: u32) ->
 }
 
 /// `task.wake_after` (`rtems_task_wake_after`): the caller sleeps for so many ticks, and yields with 0.
-pub(crate) fn wake_after(core: &mut Core, last: &mut Line, caller: ThreadIx, ticks: u32) -> Reply
+pub(crate) fn wake_after(core: &mut Core, last: &mut Threads, caller: ThreadIx, ticks: u32) -> Reply
     requires none { last.old ≡ [] }
     requires line { (thread_at (plain_of core.old) caller).line ≤ 1001 }
     requires targets { AllLead core.old.scenario.bodies }
