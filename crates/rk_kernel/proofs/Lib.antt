@@ -1,6 +1,7 @@
 pub mod Tests
 pub mod Scans
 pub mod Pieces
+pub mod Cancelling
 pub mod Noting
 pub mod Clusters
 pub mod Settling

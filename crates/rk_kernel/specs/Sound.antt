@@ -118,7 +118,7 @@ abbrev pub AllTimed : Plain → ℕ → List ClusterState → Type 0
 AllTimed k c [] = Unit {0}
 AllTimed k c (cluster ∷ clusters) = ((t : ℕ) → times t (sleepers cluster.timers) ≡ (if is_timed k c t then 1 else 0)) × AllTimed k (c + 1) clusters
 
--- A change of a state k that settling makes sound again: lines and processors are still those of k, and no thread that was eligible has another home.
+-- A change of a state k that settling makes sound again: lines and processors are still those of k, no thread that was eligible has another home, and names and threads agree.
 pub record IsGentle (k next : Plain) : Type 0 where
   pub scenario : next.scenario ≡ k.scenario
   pub present : next.present ≡ k.present
