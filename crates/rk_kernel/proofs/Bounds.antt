@@ -7,7 +7,7 @@ use Rattle.rk_model.specs.declared.scenario.Scenario.{Scenario}
 use Rattle.rk_model.specs.declared.scenario.Body.{Body}
 use Rattle.rk_model.specs.declared.scenario.Op.{Op}
 use Rattle.rk_model.specs.declared.scenario.Op.TheVariants.{Work, Goto, TaskCreate, TaskIdent, TaskStart, TaskSuspend, TaskResume, TaskSetPriority, TaskDelete, TaskWakeAfter}
-use Rattle.rk_model.specs.Limits.{LeadsWithin, GoesOn}
+use Rattle.rk_model.specs.Limits.{GoesOn}
 use Rattle.rk_model.specs.Scenarios.{may_be_target, is_target}
 use Rattle.rk_model.specs.declared.state.Life.{Life}
 use Rattle.rk_model.specs.declared.state.Life.TheVariants.{Absent}

@@ -6,10 +6,10 @@ ghost use Rattle.rk_kernel.specs.Does.{Does};
 ghost use Rattle.rk_parts.specs.Pieces.{plain_of};
 ghost use Rattle.rk_parts.specs.Leading.{AllLead};
 
+use rk_model::{Reply, Status, Thread, ThreadIx, Wait};
 use rk_parts::core_state::{Core, Threads};
 use rk_parts::places::{arrive, put};
 use rk_parts::standing::thread_of;
-use rk_model::{Reply, Status, Thread, ThreadIx, Wait};
 
 /// A reply without an out number.
 pub(crate) fn bare(status: Status) -> Reply

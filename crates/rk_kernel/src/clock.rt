@@ -11,13 +11,13 @@ ghost use Rattle.rk_parts.specs.Leading.{AllLead};
 ghost use Rattle.rk_kernel.specs.Sound.{IsSound, IsInBounds};
 ghost use Rattle.rk_kernel.specs.Step.{IsTick};
 
+use crate::steps::CoreTick;
+use rk_model::{Items, Reply, Scenario, Status, Thread, ThreadIx, Wait};
 use rk_parts::core_state::{Core, Scratch};
 use rk_parts::places::{arrive, least_of, put, runs_on_some};
 use rk_parts::settle::settle_core;
 use rk_parts::standing::{note_all, thread_of};
-use crate::steps::CoreTick;
 use rk_parts::timers::{take_due_of, thread_of_timer};
-use rk_model::{Items, Reply, Scenario, Status, Thread, ThreadIx, Wait};
 use std::mem;
 
 /// The thread after a tick through which it ran.

@@ -10,13 +10,13 @@ ghost use Rattle.rk_parts.specs.Pieces.{cluster_of, clusters_of, plain_of};
 ghost use Rattle.rk_parts.specs.Leading.{AllLead};
 ghost use Rattle.rk_kernel.specs.Sound.{IsSound};
 
+use rk_cluster::{Cluster, Moves};
+use rk_model::{Body, Init, Items, Life, NoMemory, Prio, Scenario, Standing, Thread};
 use rk_parts::core_state::{ClusterPart, Core, Scratch, Threads, Timers};
 use rk_parts::places::arrive;
 use rk_parts::settle::settle_core;
 use rk_parts::standing::note_all;
 use rk_parts::task_ids::TaskIds;
-use rk_cluster::{Cluster, Moves};
-use rk_model::{Body, Init, Items, Life, NoMemory, Prio, Scenario, Standing, Thread};
 use std::alloc::Global;
 
 /// A body that equals this one.

@@ -11,12 +11,12 @@ ghost use Rattle.rk_parts.specs.Leading.{AllLead};
 ghost use Rattle.rk_kernel.specs.Sound.{IsSound};
 
 use crate::answers::{answer_caller, answer_with, bare, value_in, wait};
+use rk_model::{Armer, Id, Life, Name, Prio, Reply, Status, Target, Thread, ThreadIx, Wait};
 use rk_parts::core_state::{Core, Threads};
 use rk_parts::places::{arrive, put};
 use rk_parts::standing::{prio_at_home, thread_of};
 use rk_parts::task_ids::{id_of, index_of};
 use rk_parts::timers::{arm_timer, cancel_timer};
-use rk_model::{Armer, Id, Life, Name, Prio, Reply, Status, Target, Thread, ThreadIx, Wait};
 
 /// Whether a task has an index in the kernel.
 fn has_index(life: Life) -> bool
