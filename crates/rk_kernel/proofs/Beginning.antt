@@ -12,7 +12,7 @@ use Rattle.rk_model.specs.State.{no_thread}
 use Rattle.rk_model.specs.Tasks.{is_live}
 use Rattle.rk_model.specs.Histories.{begun, places, named_from, begun_names}
 use Rattle.rk_ids.specs.Objects.{IsSplit}
-use Rattle.rk_kernel.specs.Named.{Takes, AreNamed}
+use Rattle.rk_parts.specs.Named.{Takes, AreNamed}
 
 -- a number stands in a range where it is within it
 times_in_range : (t a n : ℕ) → times t (range_with_len a n) ≡ cond (nat_le a t && nat_lt t (a + n)) 1 0

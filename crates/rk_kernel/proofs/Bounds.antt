@@ -7,14 +7,16 @@ use Rattle.rk_model.specs.declared.scenario.Scenario.{Scenario}
 use Rattle.rk_model.specs.declared.scenario.Body.{Body}
 use Rattle.rk_model.specs.declared.scenario.Op.{Op}
 use Rattle.rk_model.specs.declared.scenario.Op.TheVariants.{Work, Goto, TaskCreate, TaskIdent, TaskStart, TaskSuspend, TaskResume, TaskSetPriority, TaskDelete, TaskWakeAfter}
-use Rattle.rk_model.specs.Limits.{LeadsWithin, GoesOn}
+use Rattle.rk_model.specs.Limits.{GoesOn}
 use Rattle.rk_model.specs.Scenarios.{may_be_target, is_target}
 use Rattle.rk_model.specs.declared.state.Life.{Life}
 use Rattle.rk_model.specs.declared.state.Life.TheVariants.{Absent}
 use Rattle.rk_model.specs.declared.state.Thread.{Thread}
 use Rattle.rk_model.specs.State.{Plain, no_thread, thread_at, op_at, op_in}
 use Rattle.rk_model.specs.Outcomes.{landed, landing, arrived, work_at}
-use Rattle.rk_kernel.specs.Sound.{AllLead, AllGoOn, IsSound, IsInBounds, IsGentle, has_action, is_in_call}
+use Rattle.rk_parts.specs.Leading.{AllLead}
+use Rattle.rk_parts.proofs.Leading.{goto_within}
+use Rattle.rk_kernel.specs.Sound.{AllGoOn, IsSound, IsInBounds, IsGentle, has_action, is_in_call}
 
 first_acts : (o : Option Body) → has_action (op_in o 0) ≡ true
 first_acts None = refl
@@ -58,18 +60,6 @@ some_work None h = absurd (never h) where
   never : 0 < 0 → ⊥
   never w = omega (arith, w)
 some_work (Some op) h = refl
-
-goto_in : (ops : List Op) (i target : ℕ) → AllByRecursion LeadsWithin ops → slice_get ops i ≡ Some (Goto target) → target ≤ 1000
-goto_in [] i target lead is = let no : ⊥ = cc in absurd no
-goto_in (op ∷ ops) zero target lead is = let same : op ≡ Goto target = cc in (subst LeadsWithin same lead.0).1
-goto_in (op ∷ ops) (suc i) target lead is = goto_in ops i target lead.1 is
-
--- the target of a goto is at most the 1,000th line
-pub goto_within : (bodies : List Body) (b line target : ℕ) → AllLead bodies → op_in (slice_get bodies b) line ≡ Some (Goto target) → target ≤ 1000
-goto_within [] b line target lead is = let no : ⊥ = cc in absurd no
-goto_within (body ∷ bodies) zero zero target lead is = let no : ⊥ = cc in absurd no
-goto_within (body ∷ bodies) zero (suc i) target lead is = goto_in body.lines i target lead.0 is
-goto_within (body ∷ bodies) (suc b) line target lead is = goto_within bodies b line target lead.1 is
 
 landed_within : (o : Option Op) (line : ℕ) → ((target : ℕ) → o ≡ Some (Goto target) → target ≤ 1000) → line ≤ 1001 → landed o line ≤ 1001
 landed_within None line near low = low

@@ -15,9 +15,9 @@ use Rattle.rk_model.specs.Settling.{settled_from}
 use Rattle.rk_model.specs.Timers.{due_at, is_due, without_due, take_due, thread_of, sleepers}
 use Rattle.rk_model.specs.Outcomes.{end_wait, reply_at_timer}
 use Rattle.rk_model.specs.Ticks.{expire, fire, fire_each}
-use Rattle.rk_kernel.specs.Firing.{head_of, due_now, FiresFirst}
+use Rattle.rk_parts.specs.Firing.{head_of, due_now, FiresFirst}
 use Rattle.rk_kernel.specs.Sound.{IsSound, IsGentle, is_timed, has_time, is_in_call}
-use Rattle.rk_kernel.proofs.Tests.{equal_test, and_front, and_back}
+use Rattle.rk_parts.proofs.Tests.{equal_test, and_front, and_back}
 use Rattle.rk_kernel.proofs.Bounds.{bounds_at}
 use Rattle.rk_kernel.proofs.Naming.{named_put}
 use Rattle.rk_kernel.proofs.Gentle.{gentle_timers, is_timed_here, is_timed_other}

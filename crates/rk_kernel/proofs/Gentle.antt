@@ -13,7 +13,7 @@ use Rattle.rk_model.specs.Timers.{sleepers}
 use Rattle.rk_model.specs.declared.status.Status.TheVariants.{Successful, IncorrectState, AlreadySuspended}
 use Rattle.rk_model.specs.Outcomes.{gone_on, go_on, answer}
 use Rattle.rk_model.specs.Tasks.{is_live, with_suspended, suspend_found, resume_found, task_exit}
-use Rattle.rk_kernel.specs.Named.{AreNamed}
+use Rattle.rk_parts.specs.Named.{AreNamed}
 use Rattle.rk_kernel.specs.Sound.{IsSound, IsInBounds, IsGentle, is_timed, has_time, is_in_call}
 use Rattle.rk_kernel.proofs.Indices.{nth-with_same, nth-with_other, nth-with_kept, length-with_nth, All-with_nth}
 use Rattle.rk_kernel.proofs.Bounds.{bounds_at, bounds_in, arrived_bounds}

@@ -11,7 +11,7 @@ use Rattle.rk_model.specs.Lists.{has, nth, times}
 use Rattle.rk_model.specs.State.{Plain, no_thread, thread_at}
 use Rattle.rk_model.specs.Priorities.{is_eligible, standing, standings, standings_from, no_standing, nth_standing}
 use Rattle.rk_model.specs.Settling.{is_stay, is_to_end, is_to_front, move_of, moves, makes, making, moved}
-use Rattle.rk_kernel.proofs.Tests.{and_false, and_back}
+use Rattle.rk_parts.proofs.Tests.{and_false, and_back}
 use Rattle.rk_kernel.specs.Sound.{stands, own, IsGentle}
 use Rattle.rk_model.proofs.Counts.{times-append, times-filter, times-has, has_times, once_in_range}
 

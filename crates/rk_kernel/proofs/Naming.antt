@@ -13,7 +13,7 @@ use Rattle.rk_model.specs.Tasks.{is_live}
 use Rattle.rk_model.proofs.Counts.{same_either_way, times-append, has_times}
 use Rattle.rk_ids.specs.Objects.{IsSplit}
 use Rattle.rk_ids.proofs.Splits.{live_within, split_taken, split_given}
-use Rattle.rk_kernel.specs.Named.{AreNamed}
+use Rattle.rk_parts.specs.Named.{AreNamed}
 use Rattle.rk_kernel.proofs.Indices.{nth-with_same, nth-with_other, nth-with_kept}
 
 -- to put back a thread that lives as before

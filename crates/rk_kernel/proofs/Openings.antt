@@ -8,8 +8,8 @@ use Rattle.rk_model.specs.declared.scenario.Scenario.{Scenario}
 use Rattle.rk_model.specs.declared.scenario.Init.{Init}
 use Rattle.rk_model.specs.declared.state.Life.TheVariants.{Started}
 use Rattle.rk_model.specs.declared.state.Thread.{Thread}
-use Rattle.rk_kernel.specs.declared.core_state.ClusterPart.{ClusterPart}
-use Rattle.rk_kernel.specs.Pieces.{cluster_of, clusters_of}
+use Rattle.rk_parts.specs.declared.core_state.ClusterPart.{ClusterPart}
+use Rattle.rk_parts.specs.Pieces.{cluster_of, clusters_of}
 use Rattle.rk_model.specs.Lists.{nth, times}
 use Rattle.rk_model.specs.State.{Plain, no_thread, thread_at}
 use Rattle.rk_model.specs.Priorities.{is_eligible}
@@ -22,7 +22,7 @@ use Rattle.rk_kernel.proofs.Beginning.{named_vacant, named_begun}
 use Rattle.rk_kernel.proofs.Bounds.{none_bounds, arrived_bounds}
 use Rattle.rk_kernel.specs.Sound.{stands, own, is_timed, AllSound, IsInBounds, IsSound, AllTimed, IsGentle}
 use Rattle.rk_model.proofs.Counts.{times-filter}
-use Rattle.rk_kernel.proofs.Tests.{and_false}
+use Rattle.rk_parts.proofs.Tests.{and_false}
 use Rattle.rk_kernel.proofs.Timing.{never_timed, keeps_same}
 use Rattle.rk_kernel.proofs.Soundness.{sound_settled}
 

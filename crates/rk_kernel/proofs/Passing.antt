@@ -14,7 +14,8 @@ use Rattle.rk_model.specs.Priorities.{is_eligible, is_started, is_no_wait, spins
 use Rattle.rk_model.specs.Tasks.{is_live}
 use Rattle.rk_model.specs.Running.{runs_somewhere}
 use Rattle.rk_model.specs.Ticks.{charged, ticked, charge_from, pass}
-use Rattle.rk_kernel.specs.Sound.{AllLead, AllGoOn, IsSound, IsInBounds, AllSound, own, stands, is_timed, has_time}
+use Rattle.rk_parts.specs.Leading.{AllLead}
+use Rattle.rk_kernel.specs.Sound.{AllGoOn, IsSound, IsInBounds, AllSound, own, stands, is_timed, has_time}
 use Rattle.rk_kernel.proofs.Bounds.{arrived_bounds}
 
 -- what holds at each of two outcomes of a test holds of the choice

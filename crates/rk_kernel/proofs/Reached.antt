@@ -14,7 +14,7 @@ use Rattle.rk_model.specs.Steps.{Act, action, act_of, clock_of, clock_entry, act
 use Rattle.rk_model.specs.Histories.{vacant, started, opening, next_of, next_by, after_from, after, Legal}
 use Rattle.rk_model.specs.Scenarios.{IsScenario}
 use Rattle.rk_model.proofs.Limits.{limits_of}
-use Rattle.rk_kernel.specs.Firing.{due_now}
+use Rattle.rk_parts.specs.Firing.{due_now}
 use Rattle.rk_kernel.specs.Sound.{IsSound, IsGentle}
 use Rattle.rk_kernel.proofs.Callers.{caller_started, caller_waits_not, caller_works_not, caller_within}
 use Rattle.rk_kernel.proofs.Sleeping.{action_gentle}

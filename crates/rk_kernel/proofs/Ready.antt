@@ -5,9 +5,9 @@ use Rattle.rk_model.specs.declared.settling.Standing.{Standing}
 use Rattle.rk_model.specs.State.{Plain}
 use Rattle.rk_model.specs.Priorities.{standings}
 use Rattle.rk_model.specs.Settling.{settle, settle_by}
-use Rattle.rk_kernel.specs.declared.core_state.Core.{Core}
-use Rattle.rk_kernel.specs.Pieces.{cluster_of, clusters_of, plain_of}
-use Rattle.rk_kernel.specs.Settleable.{AllSettleable}
+use Rattle.rk_parts.specs.declared.core_state.Core.{Core}
+use Rattle.rk_parts.specs.Pieces.{cluster_of, clusters_of, plain_of}
+use Rattle.rk_parts.specs.Settleable.{AllSettleable}
 use Rattle.rk_kernel.specs.Sound.{IsSound, IsGentle}
 use Rattle.rk_kernel.proofs.Moving.{length-standings}
 use Rattle.rk_kernel.proofs.Soundness.{settleable, sound_settled, length-kept, length-settled}

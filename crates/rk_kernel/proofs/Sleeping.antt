@@ -24,7 +24,7 @@ use Rattle.std.proofs.lemmas.List.{get_or_past, length-map}
 use Rattle.std.proofs.lemmas.Bool.{cases_lt}
 use Rattle.rk_model.proofs.Counts.{length_by_times, length_range, once_in_range}
 use Rattle.rk_kernel.proofs.Bounds.{bounds_at, line_in, arrived_bounds}
-use Rattle.rk_kernel.proofs.Tests.{and_false}
+use Rattle.rk_parts.proofs.Tests.{and_false}
 use Rattle.rk_kernel.proofs.Timing.{timers_of, never_timed}
 use Rattle.rk_kernel.proofs.Naming.{named_put}
 use Rattle.rk_kernel.proofs.Tasking.{Calls, named_lives, create_gentle, ident_gentle, start_gentle, set_priority_gentle, delete_gentle}

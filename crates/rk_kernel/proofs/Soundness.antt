@@ -8,11 +8,11 @@ use Rattle.rk_model.specs.Priorities.{is_eligible, standings}
 use Rattle.rk_model.specs.Lines.{most_urgent}
 use Rattle.rk_model.specs.Settling.{moves, moved, key_of, settled_cluster, settled_from, settle}
 use Rattle.rk_model.specs.Running.{all_cpus}
-use Rattle.rk_kernel.specs.Settleable.{IsSettleable, AllSettleable}
+use Rattle.rk_parts.specs.Settleable.{IsSettleable, AllSettleable}
 use Rattle.rk_kernel.specs.Sound.{stands, own, IsClusterSound, AllSound, IsSound, KeepsLines, AllTimed, IsGentle}
 use Rattle.rk_kernel.proofs.Timing.{is_timed-with_clusters}
 use Rattle.rk_kernel.proofs.Moving.{line_moved, stood_in_line}
-use Rattle.rk_kernel.proofs.Assigning.{assigned_has}
+use Rattle.rk_parts.proofs.Assigning.{assigned_has}
 use Rattle.rk_cluster.proofs.Assigning.{length-assigned}
 
 -- the line of a cluster is still the one that it was

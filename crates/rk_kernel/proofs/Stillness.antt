@@ -16,9 +16,9 @@ use Rattle.rk_model.specs.Settling.{is_stay, is_to_end, is_to_front, move_of, mo
 use Rattle.rk_model.proofs.Counts.{times-has, has_times}
 use Rattle.rk_kernel.specs.Sound.{stands, IsSound, IsClusterSound, AllSound}
 use Rattle.rk_kernel.specs.Laws.{seats}
-use Rattle.rk_kernel.proofs.Tests.{and_false}
-use Rattle.rk_kernel.proofs.Assigning.{or_front, or_back}
-use Rattle.rk_kernel.proofs.Tests.{equal_test}
+use Rattle.rk_parts.proofs.Tests.{and_false}
+use Rattle.rk_parts.proofs.Assigning.{or_front, or_back}
+use Rattle.rk_parts.proofs.Tests.{equal_test}
 use Rattle.rk_kernel.proofs.Belonging.{own_once}
 use Rattle.rk_kernel.proofs.Callers.{stands_eligible}
 use Rattle.rk_kernel.proofs.Moving.{eligible_noted}

@@ -21,14 +21,15 @@ use Rattle.rk_model.specs.Priorities.{is_started, is_eligible, home_prio}
 use Rattle.rk_model.specs.Timers.{sleepers}
 use Rattle.rk_model.specs.Outcomes.{Outcome, arrived, go_on, put_var, answer, answer_in}
 use Rattle.rk_model.specs.Tasks.{is_live, live_task, task_named, with_task, create_with, task_create, ident_found, is_dormant, with_started, start_found, with_base, set_priority_found, without_task, delete_found}
-use Rattle.rk_kernel.specs.Firing.{without_thread}
-use Rattle.rk_kernel.specs.Sound.{AllLead, IsSound, IsInBounds, IsGentle, is_timed, has_time, is_in_call}
+use Rattle.rk_parts.specs.Firing.{without_thread}
+use Rattle.rk_parts.specs.Leading.{AllLead}
+use Rattle.rk_kernel.specs.Sound.{IsSound, IsInBounds, IsGentle, is_timed, has_time, is_in_call}
 use Rattle.rk_kernel.proofs.Indices.{nth-with_same, nth-with_other, nth-with_kept, nth-with_holds, length-with_nth, All-with_nth}
 use Rattle.rk_kernel.proofs.Bounds.{bounds_at, bounds_in, blank_bounds, landing_within, arrived_bounds}
 use Rattle.rk_kernel.proofs.Timing.{keeps_same, timed_same, timers_of}
 use Rattle.rk_kernel.proofs.Naming.{first_free, live_named, named_made, named_removed}
 use Rattle.rk_kernel.proofs.Gentle.{gentle_same, gentle_more, gentle_put, gentle_timers, is_timed_here, is_timed_other, go_on_more, go_on_gentle}
-use Rattle.rk_kernel.proofs.Tests.{and_false}
+use Rattle.rk_parts.proofs.Tests.{and_false}
 use Rattle.rk_model.proofs.Counts.{same_either_way}
 
 -- where a task is started, no thread is behind its 1,001st line

@@ -8,7 +8,7 @@ use Rattle.rk_model.specs.Names.{Names}
 use Rattle.rk_model.specs.State.{Plain, ClusterState, no_cluster, no_thread, thread_at, put_thread, cluster_at}
 use Rattle.rk_model.specs.Timers.{sleepers}
 use Rattle.rk_kernel.specs.Sound.{IsSound, AllSound, AllTimed, KeepsLines, is_timed, has_time}
-use Rattle.rk_kernel.proofs.Tests.{and_false}
+use Rattle.rk_parts.proofs.Tests.{and_false}
 use Rattle.rk_kernel.proofs.Indices.{nth-with_kept}
 
 -- each cluster keeps its line and processors where nothing changes

@@ -1,9 +1,4 @@
-pub mod Pieces
-pub mod Registers
-pub mod Settleable
-pub mod Named
 pub mod Sound
-pub mod Firing
 pub mod Noted
 pub mod Does
 pub mod Step

@@ -2,7 +2,7 @@
 use Rattle.std.specs.Prelude.{◌≡◌, length}
 use Rattle.rk_model.specs.State.{Plain}
 use Rattle.rk_model.specs.Priorities.{standings}
-use Rattle.rk_kernel.specs.declared.core_state.Scratch.{Scratch}
+use Rattle.rk_parts.specs.declared.core_state.Scratch.{Scratch}
 
 -- how the threads stand is noted, and there is room for 64 of each
 pub record IsNoted (k : Plain) (scratch : Scratch) : Type 0 where

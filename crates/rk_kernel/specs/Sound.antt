@@ -15,8 +15,9 @@ use Rattle.rk_model.specs.Priorities.{is_started, is_eligible}
 use Rattle.rk_model.specs.Lines.{has_cpu}
 use Rattle.rk_model.specs.Running.{cpu_count}
 use Rattle.rk_model.specs.Timers.{sleepers}
-use Rattle.rk_model.specs.Limits.{LeadsWithin, GoesOn}
-use Rattle.rk_kernel.specs.Named.{AreNamed}
+use Rattle.rk_model.specs.Limits.{GoesOn}
+use Rattle.rk_parts.specs.Named.{AreNamed}
+use Rattle.rk_parts.specs.Leading.{AllLead}
 
 -- whether a thread is eligible and of this home
 unfoldable pub stands : Plain → ℕ → ℕ → Bool
@@ -82,10 +83,6 @@ pub record IsInBounds (s : Scenario) (clusters present : ℕ) (thread : Thread) 
   -- one that isn't started, or has ended, is in no directive that waits
   pub idle : is_started thread.life ≡ false → is_in_call thread.wait thread.finished ≡ false
   pub computed : thread.computed ≤ present
-
--- each goto of these bodies leads to a line from 1 to 1,000
-abbrev pub AllLead : List Body → Type 0
-AllLead bodies = AllByRecursion (λ (body : Body). AllByRecursion LeadsWithin body.lines) bodies
 
 -- in these bodies work has at least one tick, and no goto leads to a goto
 abbrev pub AllGoOn : List Body → Type 0

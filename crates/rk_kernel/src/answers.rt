@@ -3,13 +3,13 @@ ghost use Rattle.std.specs.List.{slice_index_or};
 ghost use Rattle.rk_model.specs.State.{thread_at};
 ghost use Rattle.rk_model.specs.Outcomes.{begin_wait, go_on, answer, put_var, answer_in};
 ghost use Rattle.rk_kernel.specs.Does.{Does};
-ghost use Rattle.rk_kernel.specs.Pieces.{plain_of};
-ghost use Rattle.rk_kernel.specs.Sound.{AllLead};
+ghost use Rattle.rk_parts.specs.Pieces.{plain_of};
+ghost use Rattle.rk_parts.specs.Leading.{AllLead};
 
-use crate::core_state::{Core, Threads};
-use crate::places::{arrive, put};
-use crate::standing::thread_of;
 use rk_model::{Reply, Status, Thread, ThreadIx, Wait};
+use rk_parts::core_state::{Core, Threads};
+use rk_parts::places::{arrive, put};
+use rk_parts::standing::thread_of;
 
 /// A reply without an out number.
 pub(crate) fn bare(status: Status) -> Reply

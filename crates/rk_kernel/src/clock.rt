@@ -4,19 +4,20 @@ ghost use Rattle.rk_model.specs.Running.{cpu_count, least};
 ghost use Rattle.rk_model.specs.Outcomes.{end_wait, reply_at_timer};
 ghost use Rattle.rk_model.specs.Priorities.{standings};
 ghost use Rattle.rk_model.specs.Ticks.{charged, ticked, charge_from, pass, fire_cluster, fire_all, tick};
-ghost use Rattle.rk_kernel.specs.Firing.{due_now, FiresFirst};
+ghost use Rattle.rk_parts.specs.Firing.{due_now, FiresFirst};
 ghost use Rattle.rk_kernel.specs.Noted.{IsNoted};
-ghost use Rattle.rk_kernel.specs.Pieces.{plain_of};
-ghost use Rattle.rk_kernel.specs.Sound.{IsSound, IsInBounds, AllLead};
+ghost use Rattle.rk_parts.specs.Pieces.{plain_of};
+ghost use Rattle.rk_parts.specs.Leading.{AllLead};
+ghost use Rattle.rk_kernel.specs.Sound.{IsSound, IsInBounds};
 ghost use Rattle.rk_kernel.specs.Step.{IsTick};
 
-use crate::core_state::{Core, Scratch};
-use crate::places::{arrive, least_of, put, runs_on_some};
-use crate::settle::settle_core;
-use crate::standing::{note_all, thread_of};
 use crate::steps::CoreTick;
-use crate::timers::{take_due_of, thread_of_timer};
 use rk_model::{Items, Reply, Scenario, Status, Thread, ThreadIx, Wait};
+use rk_parts::core_state::{Core, Scratch};
+use rk_parts::places::{arrive, least_of, put, runs_on_some};
+use rk_parts::settle::settle_core;
+use rk_parts::standing::{note_all, thread_of};
+use rk_parts::timers::{take_due_of, thread_of_timer};
 use std::mem;
 
 /// The thread after a tick through which it ran.

@@ -3,17 +3,18 @@ ghost use Rattle.rk_model.specs.State.{thread_at, cluster_at};
 ghost use Rattle.rk_model.specs.Tasks.{is_live};
 ghost use Rattle.rk_model.specs.Steps.{action, back};
 ghost use Rattle.rk_kernel.specs.Does.{Does};
-ghost use Rattle.rk_kernel.specs.Pieces.{plain_of};
-ghost use Rattle.rk_kernel.specs.Sound.{AllLead, IsSound};
+ghost use Rattle.rk_parts.specs.Pieces.{plain_of};
+ghost use Rattle.rk_parts.specs.Leading.{AllLead};
+ghost use Rattle.rk_kernel.specs.Sound.{IsSound};
 
-use crate::core_state::{Core, Threads};
-use crate::places::{arrive, put};
-use crate::standing::thread_of;
 use crate::tasks::{
     create_task, delete_task, exit_task, ident_task, resume_task, set_priority, start_task,
     suspend_task, wake_after,
 };
 use rk_model::{Op, Reply, Thread, ThreadIx};
+use rk_parts::core_state::{Core, Threads};
+use rk_parts::places::{arrive, put};
+use rk_parts::standing::thread_of;
 
 /// Lets the caller return from a directive that waited, and go on.
 fn return_task(core: &mut Core, last: &mut Threads, caller: ThreadIx, reply: Reply) -> Reply

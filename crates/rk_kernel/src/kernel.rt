@@ -7,11 +7,11 @@ ghost use Rattle.rk_model.specs.Scenarios.{IsScenario};
 ghost use Rattle.rk_kernel.specs.Step.{IsStep, IsTick};
 
 use crate::clock::tick_core;
-use crate::core_state::{Core, Scratch};
 use crate::opening::{make_opening, make_scratch};
-use crate::places::{count_cpus, least_of, view_on};
 use crate::steps::{CoreStep, CoreTick, step_core};
 use rk_model::{Entry, History, NoMemory, Scenario, View, What};
+use rk_parts::core_state::{Core, Scratch};
+use rk_parts::places::{count_cpus, least_of, view_on};
 use std::alloc::Global;
 use std::marker::Model;
 
@@ -24,7 +24,7 @@ pub struct Parts {
 
 impl Model for Parts {
     ghost use Rattle.rk_model.specs.State.{Plain};
-    ghost use Rattle.rk_kernel.specs.Pieces.{plain_of};
+    ghost use Rattle.rk_parts.specs.Pieces.{plain_of};
     ghost use Rattle.rk_kernel.specs.Noted.{IsNoted};
     ghost use Rattle.rk_kernel.specs.Sound.{IsSound};
 

@@ -3,18 +3,12 @@
 
 mod answers;
 mod clock;
-mod core_state;
 mod directives;
 mod kernel;
 pub mod laws;
 mod opening;
-mod places;
-mod settle;
-mod standing;
 mod steps;
-mod task_ids;
 mod tasks;
-mod timers;
 
 pub use kernel::{
     Parts, cpus_of, open_parts, replay, run_lowest, run_view, scenario_of, step_all, tick_all,

@@ -6,16 +6,17 @@ ghost use Rattle.rk_model.specs.Histories.{begun, places, free_cluster, vacant, 
 ghost use Rattle.rk_model.specs.Limits.{IsWithinLimits};
 ghost use Rattle.rk_model.specs.Scenarios.{cpus_in};
 ghost use Rattle.rk_kernel.specs.Noted.{IsNoted};
-ghost use Rattle.rk_kernel.specs.Pieces.{cluster_of, clusters_of, plain_of};
-ghost use Rattle.rk_kernel.specs.Sound.{IsSound, AllLead};
+ghost use Rattle.rk_parts.specs.Pieces.{cluster_of, clusters_of, plain_of};
+ghost use Rattle.rk_parts.specs.Leading.{AllLead};
+ghost use Rattle.rk_kernel.specs.Sound.{IsSound};
 
-use crate::core_state::{ClusterPart, Core, Scratch, Threads, Timers};
-use crate::places::arrive;
-use crate::settle::settle_core;
-use crate::standing::note_all;
-use crate::task_ids::TaskIds;
 use rk_cluster::{Cluster, Moves};
 use rk_model::{Body, Init, Items, Life, NoMemory, Prio, Scenario, Standing, Thread};
+use rk_parts::core_state::{ClusterPart, Core, Scratch, Threads, Timers};
+use rk_parts::places::arrive;
+use rk_parts::settle::settle_core;
+use rk_parts::standing::note_all;
+use rk_parts::task_ids::TaskIds;
 use std::alloc::Global;
 
 /// A body that equals this one.

@@ -3,16 +3,16 @@ ghost use Rattle.rk_model.specs.Running.{caller};
 ghost use Rattle.rk_model.specs.Settling.{settle};
 ghost use Rattle.rk_model.specs.Steps.{action, entry_of};
 ghost use Rattle.rk_kernel.specs.Noted.{IsNoted};
-ghost use Rattle.rk_kernel.specs.Pieces.{plain_of};
+ghost use Rattle.rk_parts.specs.Pieces.{plain_of};
 ghost use Rattle.rk_kernel.specs.Sound.{IsSound};
 ghost use Rattle.rk_kernel.specs.Step.{IsStep};
 
-use crate::core_state::{Core, Scratch};
 use crate::directives::perform;
-use crate::places::{caller_on, why_not};
-use crate::settle::settle_core;
-use crate::standing::thread_of;
 use rk_model::{Entry, ThreadIx, What, Why};
+use rk_parts::core_state::{Core, Scratch};
+use rk_parts::places::{caller_on, why_not};
+use rk_parts::settle::settle_core;
+use rk_parts::standing::thread_of;
 
 /// What a step of a processor was.
 #[derive(Clone, Copy, Debug, PartialEq, Eq)]

@@ -6,16 +6,17 @@ ghost use Rattle.rk_model.specs.Outcomes.{begin_wait, answer};
 ghost use Rattle.rk_model.specs.Tasks.{is_live, task_of, task_named, task_create, task_ident, is_dormant as dormant, with_started, task_start, with_suspended, task_suspend, task_resume, with_base, task_set_priority, without_task, task_delete, task_exit, yield, sleep, task_wake_after};
 ghost use Rattle.rk_ids.specs.Objects.{IsSplit};
 ghost use Rattle.rk_kernel.specs.Does.{Does};
-ghost use Rattle.rk_kernel.specs.Pieces.{plain_of};
-ghost use Rattle.rk_kernel.specs.Sound.{AllLead, IsSound};
+ghost use Rattle.rk_parts.specs.Pieces.{plain_of};
+ghost use Rattle.rk_parts.specs.Leading.{AllLead};
+ghost use Rattle.rk_kernel.specs.Sound.{IsSound};
 
 use crate::answers::{answer_caller, answer_with, bare, value_in, wait};
-use crate::core_state::{Core, Threads};
-use crate::places::{arrive, put};
-use crate::standing::{prio_at_home, thread_of};
-use crate::task_ids::{id_of, index_of};
-use crate::timers::{arm_timer, cancel_timer};
 use rk_model::{Armer, Id, Life, Name, Prio, Reply, Status, Target, Thread, ThreadIx, Wait};
+use rk_parts::core_state::{Core, Threads};
+use rk_parts::places::{arrive, put};
+use rk_parts::standing::{prio_at_home, thread_of};
+use rk_parts::task_ids::{id_of, index_of};
+use rk_parts::timers::{arm_timer, cancel_timer};
 
 /// Whether a task has an index in the kernel.
 fn has_index(life: Life) -> bool

@@ -1,6 +1,6 @@
 use Rattle.std.proofs.Common.{◌≡◌, ◌++◌, ◌+◌, take, drop, length}
 use Rattle.rk_model.specs.Ticks.{charge_from}
-use Rattle.rk_kernel.specs.Pieces.{plain_of}
+use Rattle.rk_parts.specs.Pieces.{plain_of}
 use Rattle.rk_kernel.proofs.clock.charge_into.Given as goal
 
 abbrev pub invariant-loop-at : goal.invariant-loop-at

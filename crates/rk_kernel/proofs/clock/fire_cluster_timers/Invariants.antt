@@ -1,8 +1,8 @@
 use Rattle.std.proofs.Common.{◌≡◌, length}
 use Rattle.rk_model.specs.Ticks.{fire_each, fire_cluster}
-use Rattle.rk_kernel.specs.Firing.{due_now}
+use Rattle.rk_parts.specs.Firing.{due_now}
 use Rattle.rk_kernel.specs.Noted.{IsNoted}
-use Rattle.rk_kernel.specs.Pieces.{plain_of}
+use Rattle.rk_parts.specs.Pieces.{plain_of}
 use Rattle.rk_kernel.specs.Sound.{IsSound}
 use Rattle.rk_kernel.proofs.clock.fire_cluster_timers.Given as goal
 

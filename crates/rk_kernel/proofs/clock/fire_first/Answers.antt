@@ -4,8 +4,8 @@ use Rattle.rk_model.specs.State.{Plain}
 use Rattle.rk_model.specs.Ticks.{expire}
 use Rattle.rk_model.specs.Timers.{thread_of}
 use Rattle.rk_kernel.specs.Noted.{IsNoted}
-use Rattle.rk_kernel.specs.Firing.{due_now}
-use Rattle.rk_kernel.specs.Pieces.{plain_of, cluster_of}
+use Rattle.rk_parts.specs.Firing.{due_now}
+use Rattle.rk_parts.specs.Pieces.{plain_of, cluster_of}
 use Rattle.rk_kernel.specs.Sound.{IsSound}
 use Rattle.rk_kernel.proofs.Firings.{unchanged, fires_none, fires_some, head_some, rest_of, expired, expire_gentle}
 use Rattle.rk_kernel.proofs.Ready.{ready, settled_next, settled_sound, settled_count}

@@ -1,6 +1,6 @@
 use Rattle.std.proofs.Common.{◌+◌, List, length, arith, ap, sym, ◌∙◌, subst}
 use Rattle.rk_model.specs.declared.state.Thread.{Thread}
-use Rattle.rk_kernel.specs.Pieces.{plain_of}
+use Rattle.rk_parts.specs.Pieces.{plain_of}
 use Rattle.rk_kernel.specs.Sound.{IsSound}
 use Rattle.rk_kernel.proofs.Passing.{sound_pass, length-charge_from}
 use Rattle.rk_kernel.proofs.Ready.{noted_length}

@@ -2,7 +2,7 @@ use Rattle.std.proofs.Common.{rules, ap, ◌≡◌, length, arith, ◌∙◌}
 use Rattle.rk_model.specs.State.{Plain, thread_at}
 use Rattle.rk_model.specs.Steps.{action}
 use Rattle.rk_model.specs.Tasks.{is_live}
-use Rattle.rk_kernel.specs.Pieces.{plain_of}
+use Rattle.rk_parts.specs.Pieces.{plain_of}
 use Rattle.rk_kernel.specs.Sound.{IsSound, IsGentle}
 use Rattle.rk_model.specs.Running.{caller}
 use Rattle.std.proofs.Common.{Some, ℕ}

@@ -1,5 +1,5 @@
 use Rattle.std.proofs.Common.{sym}
-use Rattle.rk_kernel.specs.Pieces.{plain_of}
+use Rattle.rk_parts.specs.Pieces.{plain_of}
 use Rattle.rk_kernel.proofs.Naming.{live_named}
 use Rattle.rk_kernel.proofs.Tasking.{named_lives}
 use Rattle.rk_kernel.proofs.tasks.delete_task.Goals as goal

@@ -1,4 +1,4 @@
-use Rattle.rk_kernel.specs.Pieces.{plain_of}
+use Rattle.rk_parts.specs.Pieces.{plain_of}
 use Rattle.rk_kernel.proofs.Tasking.{started_line}
 use Rattle.rk_kernel.proofs.tasks.start_task.Goals as goal
 

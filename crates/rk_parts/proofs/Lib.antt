@@ -1,0 +1,13 @@
+pub mod Tests
+pub mod Leading
+pub mod Scans
+pub mod Pieces
+pub mod Cancelling
+pub mod Noting
+pub mod Clusters
+pub mod Settling
+pub mod Taking
+pub mod Assigning
+pub mod Keys
+pub mod Registering
+pub mod Filling

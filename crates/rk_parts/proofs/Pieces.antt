@@ -1,0 +1,38 @@
+-- Changes of one cluster of the pieces, and the state that they stand for.
+use Rattle.std.proofs.Common.{◌≡◌, ℕ, ◌<◌, ◌++◌, [], ◌∷◌, List, length, refl, sym, ap, ◌∙◌}
+use Rattle.std.specs.List.{slice_set, slice_index_or}
+use Rattle.std.proofs.lemmas.List.{map-set, get_or-map}
+use Rattle.rk_model.specs.declared.state.Armed.{Armed}
+use Rattle.rk_model.specs.State.{no_cluster, cluster_at, put_cluster}
+use Rattle.rk_model.specs.Timers.{arm, cancel, take_due, without_due}
+use Rattle.rk_parts.specs.declared.core_state.ClusterPart.{ClusterPart}
+use Rattle.rk_parts.specs.declared.core_state.Core.{Core}
+use Rattle.rk_parts.specs.Firing.{without_thread}
+use Rattle.rk_parts.specs.Pieces.{cluster_of, plain_of}
+
+-- the cluster of a number is that of its part
+pub cluster_at-plain_of : (core : Core) (c : ℕ) (part : ClusterPart) → c < length core.clusters → part ≡ slice_index_or core.clusters c part → cluster_at (plain_of core) c ≡ cluster_of part
+cluster_at-plain_of core c part h is = get_or-map cluster_of core.clusters c part no_cluster h ∙ ap cluster_of (sym is)
+
+-- to write a part with other timers is to put its cluster with those timers
+put_timers : (core : Core) (c : ℕ) (part : ClusterPart) (timers : List Armed) → c < length core.clusters → part ≡ slice_index_or core.clusters c part →
+    plain_of (record core { clusters = slice_set core.clusters c (record part { timers = timers }) }) ≡ put_cluster (plain_of core) c (record (cluster_at (plain_of core) c) { timers = timers })
+put_timers core c part timers h is =
+    let e = cluster_at-plain_of core c part h is in
+    let m = map-set cluster_of core.clusters c (record part { timers = timers }) in
+    rw (e, m) refl
+
+-- to write a part with one more timer is to arm it
+pub put_armed : (core : Core) (c : ℕ) (part : ClusterPart) (timers : List Armed) (timer : Armed) → c < length core.clusters → part ≡ slice_index_or core.clusters c part → timers ≡ part.timers ++ timer ∷ [] →
+    plain_of (record core { clusters = slice_set core.clusters c (record part { timers = timers }) }) ≡ arm (plain_of core) c timer
+put_armed core c part timers timer h is e = put_timers core c part timers h is ∙ rw (e, cluster_at-plain_of core c part h is) refl
+
+-- to write a part without the first timer that is due is to take it out
+pub put_taken : (core : Core) (c : ℕ) (part : ClusterPart) (timers : List Armed) → c < length core.clusters → part ≡ slice_index_or core.clusters c part → timers ≡ without_due core.present part.timers →
+    plain_of (record core { clusters = slice_set core.clusters c (record part { timers = timers }) }) ≡ take_due (plain_of core) c
+put_taken core c part timers h is e = put_timers core c part timers h is ∙ rw (e, cluster_at-plain_of core c part h is) refl
+
+-- to write a part without the timers of a thread is to cancel its timer
+pub put_cancelled : (core : Core) (c t : ℕ) (part : ClusterPart) (timers : List Armed) → c < length core.clusters → part ≡ slice_index_or core.clusters c part → timers ≡ without_thread t part.timers →
+    plain_of (record core { clusters = slice_set core.clusters c (record part { timers = timers }) }) ≡ cancel (plain_of core) c t
+put_cancelled core c t part timers h is e = put_timers core c part timers h is ∙ rw (e, cluster_at-plain_of core c part h is) refl

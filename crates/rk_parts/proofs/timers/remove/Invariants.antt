@@ -1,0 +1,12 @@
+use Rattle.std.proofs.Common.{◌≡◌, ◌≤◌, ◌-◌, ◌++◌, take, drop, length}
+use Rattle.rk_parts.specs.Firing.{without_thread}
+use Rattle.rk_parts.proofs.timers.remove.Given as goal
+
+abbrev pub invariant-looking : goal.invariant-looking
+invariant-looking l = record {
+  within : l.at ≤ length l.timers;
+  told : take l.at l.timers ++ without_thread l.thread (drop l.at l.timers) ≡ without_thread l.thread l.fn.timers;
+}
+
+abbrev pub decreases-looking : goal.decreases-looking
+decreases-looking l = length l.timers - l.at

@@ -1,0 +1,6 @@
+pub mod Pieces
+pub mod Registers
+pub mod Settleable
+pub mod Named
+pub mod Leading
+pub mod Firing

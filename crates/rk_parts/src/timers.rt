@@ -1,0 +1,79 @@
+ghost use Rattle.std.specs.Prelude.{◌≡◌, ◌<◌, ◌≤◌, ◌+◌, ◌-◌, ◌++◌, ◌∷◌, [], ℕ, length};
+ghost use Rattle.rk_model.specs.State.{cluster_at};
+ghost use Rattle.rk_model.specs.Timers.{arm, cancel, due_at, without_due, take_due, thread_of};
+ghost use Rattle.rk_parts.specs.Pieces.{plain_of};
+ghost use Rattle.rk_parts.specs.Firing.{head_of, without_thread};
+
+use crate::core_state::{Core, Timers};
+use rk_model::{Armed, Armer, ThreadIx};
+
+/// Arms a timer of a cluster, as its last.
+pub fn arm_timer(core: &mut Core, cluster: u8, who: Armer, due: u64)
+    requires cluster { cluster < length core.old.clusters }
+    requires room { length (cluster_at (plain_of core.old) cluster).timers < 64 }
+    ensures { plain_of core.new ≡ arm (plain_of core.old) cluster (record { who = who; due = due }) }
+{
+    add(&mut core.clusters.at_mut(cluster as usize).timers, who, due);
+}
+
+/// Cancels the timer of a thread in a cluster, if it has one.
+pub fn cancel_timer(core: &mut Core, cluster: u8, thread: ThreadIx)
+    requires { cluster < length core.old.clusters }
+    ensures { plain_of core.new ≡ cancel (plain_of core.old) cluster thread }
+{
+    remove(&mut core.clusters.at_mut(cluster as usize).timers, thread);
+}
+
+/// Takes out the timers of a thread.
+fn remove(timers: &mut Timers, thread: ThreadIx)
+    ensures { timers.new ≡ without_thread thread timers.old }
+{
+    let mut at = 0;
+    'looking: while at < timers.len() {
+        if thread_of_timer(timers.as_slice()[at].who) == thread {
+            timers.take(at);
+        } else {
+            at += 1;
+        }
+    }
+}
+
+/// Adds a timer as the last.
+fn add(timers: &mut Timers, who: Armer, due: u64)
+    requires { length timers.old < 64 }
+    ensures { timers.new ≡ timers.old ++ (record { who = who; due = due }) ∷ [] }
+{
+    timers.push(Armed { who, due });
+}
+
+/// Takes out the first timer that is due at a tick.
+fn take_first(timers: &mut Timers, tick: u64) -> Option<Armed>
+    ensures first { result ≡ head_of (due_at tick timers.old) }
+    ensures rest { timers.new ≡ without_due tick timers.old }
+{
+    for at in 0..timers.len() {
+        if timers.as_slice()[at].due == tick {
+            return Some(timers.take(at));
+        }
+    }
+    None
+}
+
+/// Takes out the first timer of a cluster that is due now.
+pub fn take_due_of(core: &mut Core, cluster: usize) -> Option<Armed>
+    requires { cluster < length core.old.clusters }
+    ensures first { result ≡ head_of (due_at core.old.present (cluster_at (plain_of core.old) cluster).timers) }
+    ensures taken { plain_of core.new ≡ take_due (plain_of core.old) cluster }
+{
+    let now = u64::from(core.present);
+    take_first(&mut core.clusters.at_mut(cluster).timers, now)
+}
+
+/// The thread whose timer it is.
+pub fn thread_of_timer(who: Armer) -> ThreadIx
+    ensures { result ≡ thread_of who }
+{
+    match who {
+        Armer::Thread(thread) => thread,
+    }
+}
