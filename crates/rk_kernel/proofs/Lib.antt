@@ -22,3 +22,4 @@ pub mod Manning
 pub mod Acting
 pub mod Stillness
 pub mod Refusing
+pub mod Keeping

@@ -15,9 +15,12 @@ use Rattle.rk_model.specs.Lines.{most_urgent, assigned}
 use Rattle.rk_model.specs.Settling.{moves, moved, key_of, settled_from, settle}
 use Rattle.rk_model.specs.Running.{all_cpus, cpu_at, view_of}
 use Rattle.rk_model.specs.Ticks.{pass}
-use Rattle.rk_model.specs.Histories.{free_cluster, vacant, after}
+use Rattle.rk_model.specs.Steps.{Act, act}
+use Rattle.rk_model.specs.Limits.{IsWithinLimits}
+use Rattle.rk_model.specs.Histories.{free_cluster, vacant, opening, after}
 use Rattle.rk_model.specs.Scenarios.{IsScenario}
 use Rattle.rk_kernel.specs.Sound.{stands, own, AllSound, IsClusterSound, IsSound, KeepsLines, IsGentle}
+use Rattle.rk_kernel.specs.Manned.{HasRunners, AllManned, AreManned}
 use Rattle.rk_kernel.specs.Laws.{seats, ProcessorsHaveTheRunners, NoneRunsTwice}
 use Rattle.rk_kernel.proofs.Moving.{line_moved, standing_at, length-standings}
 use Rattle.rk_cluster.proofs.Assigning.{length-assigned}
@@ -25,19 +28,7 @@ use Rattle.rk_kernel.proofs.Passing.{passed_steady}
 use Rattle.rk_kernel.proofs.Belonging.{own_once, sound_at}
 use Rattle.rk_kernel.proofs.Seats.{seats_assigned}
 use Rattle.rk_kernel.proofs.Ranking.{none_urgent, most_few, times-most_urgent}
-use Rattle.rk_kernel.proofs.Reached.{IsKept, kept_after}
-
--- the processors of a cluster have the most urgent threads of its line, each on one
-abbrev pub HasRunners : (ℕ → ℕ) → ClusterState → Type 0
-HasRunners key cluster = (t : ℕ) → seats t cluster.cpus ≡ times t (most_urgent key (length cluster.cpus) cluster.line)
-
-abbrev pub AllManned : (ℕ → ℕ) → List ClusterState → Type 0
-AllManned key [] = Unit {0}
-AllManned key (cluster ∷ clusters) = HasRunners key cluster × AllManned key clusters
-
--- all processors of a state have their clusters' runners
-abbrev pub AreManned : Plain → Type 0
-AreManned k = AllManned (home_prio k) k.clusters
+use Rattle.rk_kernel.proofs.Reached.{IsKept, kept_after, kept_opening, kept_act}
 
 at_most_once : (b : Bool) → cond b 1 0 ≤ 1
 at_most_once true = omega arith
@@ -104,6 +95,14 @@ no_seats t (suc m) = no_seats t m
 manned_free : (key : ℕ → ℕ) (counts : List ℕ) → AllManned key (map free_cluster counts)
 manned_free key [] = tt
 manned_free key (m ∷ counts) = (λ t. no_seats t m ∙ ap (times t) (sym (none_urgent key (length (free_cluster m).cpus))), manned_free key counts)
+
+-- The processors have their runners at opening,
+pub manned_opening : (s : Scenario) → IsWithinLimits s → AreManned (opening s)
+manned_opening s within = (kept_opening AreManned kept_manned s within (manned_free (home_prio (vacant s)) s.clusters)).1
+
+-- and after what a seat does.
+pub manned_act : (k : Plain) (q : ℕ) (a : Act) → IsSound k → AreManned k → act k q ≡ Some a → AreManned a.next
+manned_act k q a sound manned did = (kept_act AreManned kept_manned k q a (sound, manned) did).1
 
 pub manned_after : (s : Scenario) (xs : List Entry) → IsScenario s → IsSound (after s xs) × AreManned (after s xs)
 manned_after s xs is = kept_after AreManned kept_manned s xs is (manned_free (home_prio (vacant s)) s.clusters)

@@ -12,6 +12,7 @@ use Rattle.rk_model.specs.Timers.{thread_of}
 use Rattle.rk_model.specs.Ticks.{pass, expire, fire, fire_each, fire_cluster, fire_from, tick}
 use Rattle.rk_model.specs.Steps.{Act, action, act_of, clock_of, clock_entry, act}
 use Rattle.rk_model.specs.Histories.{vacant, started, opening, next_of, next_by, after_from, after, Legal}
+use Rattle.rk_model.specs.Limits.{IsWithinLimits}
 use Rattle.rk_model.specs.Scenarios.{IsScenario}
 use Rattle.rk_model.proofs.Limits.{limits_of}
 use Rattle.rk_parts.specs.Firing.{due_now}
@@ -86,11 +87,13 @@ both_act P kept k q both = by P kept k q (eqb q 8) both where
 kept_alone : IsKept (λ k. Unit {0})
 kept_alone = record { settled = λ _ _ _ _ _ _. tt; passed = λ _ _ _. tt }
 
+-- what is kept holds after what a seat does
+pub kept_act : (P : Plain → Type 0) → IsKept P → (k : Plain) (q : ℕ) (a : Act) → Both P k → act k q ≡ Some a → Both P a.next
+kept_act P kept k q a both did = subst (AllNext (Both P)) did (both_act P kept k q both)
+
 -- a sound state is sound after what a seat does
 pub sound_act : (k : Plain) (q : ℕ) (a : Act) → IsSound k → act k q ≡ Some a → IsSound a.next
-sound_act k q a sound did =
-    let P : Plain → Type 0 = λ k. Unit {0} in
-    (subst (AllNext (Both P)) did (both_act P kept_alone k q (sound, tt))).0
+sound_act k q a sound did = (kept_act (λ k. Unit {0}) kept_alone k q a (sound, tt) did).0
 
 both_next : (P : Plain → Type 0) (k : Plain) (o : Option Act) → Both P k → AllNext (Both P) o → Both P (next_of k o)
 both_next P k None both all = both
@@ -100,11 +103,14 @@ both_after : (P : Plain → Type 0) → IsKept P → (k : Plain) (xs : List Entr
 both_after P kept k [] both = both
 both_after P kept k (x ∷ xs) both = both_after P kept (next_by k x) xs (both_next P k (act k x.seat) both (both_act P kept k x.seat both))
 
+-- and at opening, where it holds where there is no task yet
+pub kept_opening : (P : Plain → Type 0) → IsKept P → (s : Scenario) → IsWithinLimits s → P (vacant s) → Both P (opening s)
+kept_opening P kept s within begins = both_settled P kept (vacant s) (started s) [] (gentle_started s within) (sound_vacant s within, begins)
+
 -- What is kept, and holds where there is no task yet, holds after each history.
 pub kept_after : (P : Plain → Type 0) → IsKept P → (s : Scenario) (xs : List Entry) → IsScenario s → P (vacant s) → Both P (after s xs)
 kept_after P kept s xs is begins =
-    let within = limits_of s is in
-    both_after P kept (opening s) xs (both_settled P kept (vacant s) (started s) [] (gentle_started s within) (sound_vacant s within, begins))
+    both_after P kept (opening s) xs (kept_opening P kept s (limits_of s is) begins)
 
 -- Each state that a legal history leads to is sound.
 pub sound_after : (s : Scenario) (xs : List Entry) → IsScenario s → Legal s xs → IsSound (after s xs)

@@ -26,7 +26,8 @@ use Rattle.rk_kernel.specs.Laws.{is_call, is_refused, is_refusal, refused_vars, 
 use Rattle.rk_kernel.proofs.Indices.{nth-with_same, nth-with_kept, with_nth-twice, length-with_nth}
 use Rattle.rk_kernel.proofs.Callers.{caller_within}
 use Rattle.rk_kernel.proofs.Passing.{spins_alike}
-use Rattle.rk_kernel.proofs.Manning.{AreManned, manned_after}
+use Rattle.rk_kernel.specs.Manned.{AreManned}
+use Rattle.rk_kernel.proofs.Manning.{manned_after}
 use Rattle.rk_kernel.proofs.Stillness.{settled_still}
 
 -- the caller has gone on, with these variables, and none goes last
@@ -178,7 +179,11 @@ of_seat k q sound manned = by (eqb q 8) where
   by true = of_clock k (least k)
   by false = of_processor k q (caller k q) refl sound manned
 
+-- What a seat does that is a refusal changes the caller alone.
+pub refusal_alone : (k : Plain) (q : ℕ) (a : Act) → IsSound k → AreManned k → act k q ≡ Some a → is_refusal a.entry ≡ true → a.next ≡ put_thread k a.entry.task (refused_thread k.scenario (thread_at k a.entry.task))
+refusal_alone k q a sound manned did refusal = subst (AllRefusals k) did (of_seat k q sound manned) refusal
+
 pub refusals_alone : RefusalsChangeTheCallerAlone
 refusals_alone s xs is legal p a did refusal =
     let both = manned_after s xs is in
-    subst (AllRefusals _) did (of_seat _ p both.0 both.1) refusal
+    refusal_alone _ p a both.0 both.1 did refusal

@@ -23,7 +23,8 @@ use Rattle.rk_kernel.proofs.Belonging.{own_once}
 use Rattle.rk_kernel.proofs.Callers.{stands_eligible}
 use Rattle.rk_kernel.proofs.Moving.{eligible_noted}
 use Rattle.rk_kernel.proofs.Seats.{has_seat, no_seat}
-use Rattle.rk_kernel.proofs.Manning.{HasRunners, AllManned, AreManned, prio_noted, other_key}
+use Rattle.rk_kernel.specs.Manned.{HasRunners, AllManned, AreManned}
+use Rattle.rk_kernel.proofs.Manning.{prio_noted, other_key}
 
 -- what none of a list passes leaves nothing
 filter_none : (p : ℕ → Bool) (xs : List ℕ) → ((t : ℕ) → has xs t ≡ true → p t ≡ false) → filter p xs ≡ []

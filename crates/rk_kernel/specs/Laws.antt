@@ -18,6 +18,8 @@ use Rattle.rk_model.specs.Lines.{rank, runners}
 use Rattle.rk_model.specs.Running.{running, caller}
 use Rattle.rk_model.specs.Histories.{Legal, after}
 use Rattle.rk_model.specs.Scenarios.{IsScenario}
+use Rattle.rk_kernel.specs.declared.steps.CoreStep.{CoreStep}
+use Rattle.rk_kernel.specs.declared.steps.CoreStep.TheVariants.{Did, Nothing}
 use Rattle.rk_kernel.specs.Sound.{stands, has_action}
 
 -- it holds of the state after each legal history of each scenario
@@ -106,3 +108,8 @@ refused_thread s thread = gone_on s (record thread { vars = refused_vars (op_at 
 -- A refusal changes the caller alone: its thread has gone on, with 0 in its result variable, and nothing else of the state changed.
 abbrev pub RefusalsChangeTheCallerAlone : Type 0
 RefusalsChangeTheCallerAlone = AfterEach (λ k. (p : ℕ) (a : Act) → act k p ≡ Some a → is_refusal a.entry ≡ true → a.next ≡ put_thread k a.entry.task (refused_thread k.scenario (thread_at k a.entry.task)))
+
+-- a step of a processor that is a refusal changed the caller alone
+abbrev pub RefusesAlone : CoreStep → Plain → Plain → Type 0
+RefusesAlone (Did x) old new = is_refusal x ≡ true → new ≡ put_thread old x.task (refused_thread old.scenario (thread_at old x.task))
+RefusesAlone (Nothing why) old new = Unit {0}

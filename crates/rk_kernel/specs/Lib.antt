@@ -3,3 +3,4 @@ pub mod Noted
 pub mod Does
 pub mod Step
 pub mod Laws
+pub mod Manned

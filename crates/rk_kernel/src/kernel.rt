@@ -5,6 +5,7 @@ ghost use Rattle.rk_model.specs.Steps.{act, clock_entry};
 ghost use Rattle.rk_model.specs.Histories.{opening, turn, lowest, lowest_from, next_of, is_end};
 ghost use Rattle.rk_model.specs.Scenarios.{IsScenario};
 ghost use Rattle.rk_kernel.specs.Step.{IsStep, IsTick};
+ghost use Rattle.rk_kernel.specs.Laws.{RefusesAlone};
 
 use crate::clock::tick_core;
 use crate::opening::{make_opening, make_scratch};
@@ -27,12 +28,13 @@ impl Model for Parts {
     ghost use Rattle.rk_parts.specs.Pieces.{plain_of};
     ghost use Rattle.rk_kernel.specs.Noted.{IsNoted};
     ghost use Rattle.rk_kernel.specs.Sound.{IsSound};
+    ghost use Rattle.rk_kernel.specs.Manned.{AreManned};
 
     ghost Value = { Plain };
 
     ghost view = { λ p. plain_of p.core };
 
-    ghost invariant = { λ p. IsSound (plain_of p.core) × IsNoted (plain_of p.core) p.scratch };
+    ghost invariant = { λ p. IsSound (plain_of p.core) × AreManned (plain_of p.core) × IsNoted (plain_of p.core) p.scratch };
 }
 
 /// The parts of the opening state of a scenario. It takes all the room that the run needs.
@@ -49,11 +51,13 @@ pub fn open_parts(alloc: Global, scenario: &Scenario) -> Result<Parts, NoMemory>
     Ok(Parts { core, scratch })
 }
 
-/// A step of a processor, whose number is below `cpus_of`: its directive, or why it has none. It
-/// takes no memory.
+/// A step of a processor, whose number is below `cpus_of`: its directive, or why it has none. A
+/// directive that refuses changes its caller alone: its place, the work that it has there, and its
+/// result variable. It takes no memory.
 pub fn step_all(parts: &mut Parts, cpu: u8) -> CoreStep
     requires { cpu < cpu_count parts.old }
-    ensures { IsStep parts.old cpu result parts.new }
+    ensures step { IsStep parts.old cpu result parts.new }
+    ensures refused { RefusesAlone result parts.old parts.new }
 {
     step_core(&mut parts.core, &mut parts.scratch, cpu)
 }

@@ -1,5 +1,15 @@
+use Rattle.std.proofs.Common.{sym, subst}
 use Rattle.rk_model.proofs.Limits.{limits_of}
+use Rattle.rk_kernel.specs.Manned.{AreManned}
+use Rattle.rk_kernel.proofs.Manning.{manned_opening}
 use Rattle.rk_kernel.proofs.kernel.open_parts.Goals as goal
 
 pub make_opening-requires-clause-limits : goal.make_opening-requires-clause-limits
 make_opening-requires-clause-limits c = limits_of c.args.scenario.now c.requires
+
+pub invariant_of-result : goal.invariant_of-result
+invariant_of-result c = (
+  c.in_ok-core.ensures.sound,
+  subst AreManned (sym c.in_ok-core.ensures.opening) (manned_opening c.args.scenario.now (limits_of c.args.scenario.now c.requires)),
+  c.in_ok-core.ensures.noted,
+)

@@ -1,0 +1,10 @@
+use Rattle.rk_parts.specs.Pieces.{plain_of}
+use Rattle.rk_kernel.proofs.Keeping.{tick_manned}
+use Rattle.rk_kernel.proofs.kernel.tick_all.Goals as goal
+
+pub invariant_of-parts : goal.invariant_of-parts
+invariant_of-parts c = (
+  c.tick_core.ensures.sound,
+  tick_manned (plain_of c.parts.inside.core) (plain_of c.tick_core.new.core) c.tick_core.result c.parts.invariant.0 c.parts.invariant.1 c.tick_core.ensures.step,
+  c.tick_core.ensures.noted,
+)
