@@ -1,9 +1,11 @@
 -- The objects of a class, and what the calls on their ids answer.
-use Rattle.std.specs.Prelude.{ℕ, ◌+◌, ◌≤◌, ◌≡◌, List, ◌∷◌, Bool, ◌&&◌, Option, Some, None, if◌then◌else◌, nat_le}
+use Rattle.std.specs.Prelude.{ℕ, ◌+◌, ◌≤◌, ◌≡◌, List, ◌∷◌, Bool, true, false, ◌&&◌, ◌==◌, filter, Option, Some, None, if◌then◌else◌, nat_le}
+use Rattle.std.specs.List.{AllByRecursion}
 use Rattle.rk_model.specs.declared.ids.Class.{Class}
+use Rattle.rk_model.specs.declared.ids.Named.{Named}
 use Rattle.rk_model.specs.declared.ids.Id.{Id}
 use Rattle.rk_model.specs.Ids.{id_of}
-use Rattle.rk_model.specs.Lists.{times}
+use Rattle.rk_model.specs.Lists.{has, times}
 use Rattle.rk_model.specs.Names.{Names, indices, lives, taken}
 
 -- The objects of a class: the class, and their names and indices.
@@ -42,3 +44,18 @@ optional_id class (Some index) = Some (record { bits = id_of class index })
 abbrev pub live_index : Objects → Option ℕ → Option ℕ
 live_index all None = None
 live_index all (Some index) = if lives_at all index then Some index else None
+
+-- whether an object has the name
+abbrev pub has_name : ℕ → Named → Bool
+has_name name object = object.name.bits == name
+
+-- The bits are the id of a live object of the name, and no live object of less index has it.
+pub record IsLeastNamed (bits name : ℕ) (all : Objects) : Type 0 where
+  pub index : ℕ
+  pub id : bits ≡ id_of all.class index
+  pub named : has (indices (filter (has_name name) all.names.live)) index ≡ true
+  pub least : AllByRecursion (λ (object : Named). has_name name object ≡ true → index ≤ object.index) all.names.live
+
+-- No live object has the name.
+abbrev pub NoneIsNamed : ℕ → Objects → Type 0
+NoneIsNamed name all = AllByRecursion (λ (object : Named). has_name name object ≡ false) all.names.live

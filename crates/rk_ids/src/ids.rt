@@ -1,9 +1,9 @@
-ghost use Rattle.std.specs.Prelude.{◌≡◌, ◌≢◌, ◌↔◌, ◌≤◌, [], ◌==◌, length, IfOk, IfSome, OnErr, Err, true};
+ghost use Rattle.std.specs.Prelude.{◌≡◌, ◌≢◌, ◌↔◌, ◌≤◌, [], ◌==◌, length, IfOk, IfSome, IfNone, OnErr, Err, true};
 ghost use Rattle.std.specs.List.{position_or_len, range_with_len};
 ghost use Rattle.rk_model.specs.Ids.{id_of, index_in};
 ghost use Rattle.rk_model.specs.Names.{no_names, given_back, least_named, lesser};
 ghost use Rattle.rk_ids.specs.declared.ids.IdError.TheVariants.{InvalidName, TooMany};
-ghost use Rattle.rk_ids.specs.Objects.{objects, lives_at, live_index, optional_id, IsMade, IsSplit};
+ghost use Rattle.rk_ids.specs.Objects.{objects, lives_at, live_index, optional_id, IsLeastNamed, NoneIsNamed, IsMade, IsSplit};
 
 use rk_model::{Bounded, Class, Id, Name, Named, NoMemory};
 use std::alloc::Global;
@@ -80,6 +80,15 @@ impl Ids {
     /// The id of the live object of least index that has the name; `None` exactly where there is
     /// none.
     pub fn find(&self, name: Name) -> Option<Id>
+        ensures id { result ≡ optional_id self.now.class (least_named name.bits self.now.names.live) }
+        ensures least { IfSome result (λ id. IsLeastNamed id.bits name.bits self.now) }
+        ensures none { IfNone result (NoneIsNamed name.bits self.now) }
+    {
+        self.id_named(name)
+    }
+
+    /// The id of the live object of least index that has the name, if there is one.
+    fn id_named(&self, name: Name) -> Option<Id>
         ensures { result ≡ optional_id self.now.class (least_named name.bits self.now.names.live) }
     {
         let index = least_index(self.live.as_slice(), name)?;

@@ -1,10 +1,8 @@
-use Rattle.rk_ids.proofs.Splits.{found_within}
+use Rattle.rk_ids.proofs.Leasts.{found_least, found_none}
 use Rattle.rk_ids.proofs.ids.Ids.find.Goals as goal
 
-pub of-requires-clause-low : goal.of-requires-clause-low
-of-requires-clause-low c =
-    let w = found_within c.args.name.bits _ c.self.inside.live c.self.inside.free c.in_ok-index.index _ c.as_slice.ensures c.self.invariant c.least_index.ensures c.in_ok-index.was in w.0
+pub returns-clause-least : goal.returns-clause-least
+returns-clause-least c = found_least c.id_named.result c.args.name.bits c.args.self.now c.id_named.ensures
 
-pub of-requires-clause-high : goal.of-requires-clause-high
-of-requires-clause-high c =
-    let w = found_within c.args.name.bits _ c.self.inside.live c.self.inside.free c.in_ok-index.index _ c.as_slice.ensures c.self.invariant c.least_index.ensures c.in_ok-index.was in w.1
+pub returns-clause-none : goal.returns-clause-none
+returns-clause-none c = found_none c.id_named.result c.args.name.bits c.args.self.now c.id_named.ensures
