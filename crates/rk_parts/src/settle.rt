@@ -1,5 +1,4 @@
 ghost use Rattle.std.specs.Prelude.{◌≡◌, ◌≤◌, length, Option, None};
-ghost use Rattle.rk_model.specs.Lists.{has};
 ghost use Rattle.rk_model.specs.Priorities.{standings};
 ghost use Rattle.rk_model.specs.Settling.{move_of, moves, key_of, settled_cluster, settled_from, settle_by};
 ghost use Rattle.rk_parts.specs.Pieces.{plain_of, cluster_of, clusters_of};
@@ -12,18 +11,6 @@ use crate::standing::{note_all, nth_of, thread_of};
 use rk_cluster::{Change, Moves};
 use rk_model::{Items, Move, Prio, Standing, Thread, ThreadIx};
 use std::mem;
-
-/// Whether the thread is in the list.
-fn contains(list: &[ThreadIx], thread: ThreadIx) -> bool
-    ensures { result ≡ has list.now thread }
-{
-    for found in list {
-        if *found == thread {
-            return true;
-        }
-    }
-    false
-}
 
 /// What settling asks of a thread that stood and stands like this.
 #[tactic(auto, unfolding(rk_model::specs::Settling::move_of))]
@@ -42,13 +29,12 @@ fn compare(before: Standing, now: Standing, last: bool) -> Move
 }
 
 /// What settling asks of the thread of an index.
-#[tactic(auto, unfolding(rk_model::specs::Settling::moves))]
 fn move_at(before: &[Standing], now: &[Standing], last: &[ThreadIx], thread: ThreadIx) -> Move
     ensures { result ≡ moves before.now now.now last.now thread }
 {
     let stood = nth_of(before, thread);
     let stands = nth_of(now, thread);
-    compare(stood, stands, contains(last, thread))
+    compare(stood, stands, last.contains(&thread))
 }
 
 /// The change of a thread with this move and this priority, which stood in the line before or
