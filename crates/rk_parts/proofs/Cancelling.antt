@@ -1,29 +1,29 @@
 -- Timers that are taken out of a list at their place.
-use Rattle.std.proofs.Common.{◌≡◌, ℕ, zero, suc, ◌<◌, ◌≤◌, List, [], ◌∷◌, ◌++◌, true, ◌==◌, length, take, drop, get_or, arith, refl, sym, ap, ◌∙◌}
+use Rattle.std.proofs.Common.{◌≡◌, ℕ, zero, suc, ◌<◌, ◌≤◌, List, [], ◌∷◌, ◌++◌, true, length, take, drop, get_or, arith, refl, sym, ap, ◌∙◌}
 use Rattle.std.specs.List.{remove}
 use Rattle.std.proofs.lemmas.List.Edits.{length-remove}
 use Rattle.std.proofs.lemmas.Bool.Decides.{nat_tests}
 use Rattle.rk_model.specs.declared.state.Armed.{Armed}
-use Rattle.rk_model.specs.Timers.{thread_of, is_due, without_due}
-use Rattle.rk_parts.specs.Firing.{without_thread}
+use Rattle.rk_model.specs.declared.state.Armer.{Armer}
+use Rattle.rk_model.specs.Timers.{is_same, without_timer, is_due, without_due}
 
--- a timer of a thread is taken out: what is looked through, and the rest without the thread's, are as before
-one_cancelled : (t : ℕ) (timers : List Armed) (i : ℕ) (x : Armed) → i < length timers → (thread_of (get_or timers i x).who == t) ≡ true → take i (remove timers i) ++ without_thread t (drop i (remove timers i)) ≡ take i timers ++ without_thread t (drop i timers)
-one_cancelled t [] i x within whose = absurd (omega (arith, within))
-one_cancelled t (y ∷ ys) zero x within whose = rw whose refl
-one_cancelled t (y ∷ ys) (suc i) x within whose = ap (λ (zs : List Armed). y ∷ zs) (one_cancelled t ys i x (omega (arith, within)) whose)
+-- a timer of one is taken out: what is looked through, and the rest without its timers, are as before
+one_cancelled : (who : Armer) (timers : List Armed) (i : ℕ) (x : Armed) → i < length timers → is_same (get_or timers i x).who who ≡ true → take i (remove timers i) ++ without_timer who (drop i (remove timers i)) ≡ take i timers ++ without_timer who (drop i timers)
+one_cancelled who [] i x within whose = absurd (omega (arith, within))
+one_cancelled who (y ∷ ys) zero x within whose = rw whose refl
+one_cancelled who (y ∷ ys) (suc i) x within whose = ap (λ (zs : List Armed). y ∷ zs) (one_cancelled who ys i x (omega (arith, within)) whose)
 
--- what a loop that takes out the timers of a thread keeps
-pub record IsCancelled (t at : ℕ) (timers all : List Armed) : Type 0 where
+-- what a loop that takes out the timers of one keeps
+pub record IsCancelled (who : Armer) (at : ℕ) (timers all : List Armed) : Type 0 where
   pub within : at ≤ length timers
-  pub told : take at timers ++ without_thread t (drop at timers) ≡ without_thread t all
+  pub told : take at timers ++ without_timer who (drop at timers) ≡ without_timer who all
 
-pub cancelled_one : (t at whose : ℕ) (slice timers next all : List Armed) (x : Armed) → at < length timers → slice ≡ timers → whose ≡ thread_of (get_or slice at x).who → true ≡ (whose == t) → next ≡ remove timers at → take at timers ++ without_thread t (drop at timers) ≡ without_thread t all → IsCancelled t at next all
-cancelled_one t at whose slice timers next all x within seen is same taken told =
-    let test : (thread_of (get_or timers at x).who == t) ≡ true = ap (λ (zs : List Armed). thread_of (get_or zs at x).who == t) (sym seen) ∙ ap (λ v. v == t) (sym is) ∙ sym same in
+pub cancelled_one : (who : Armer) (at : ℕ) (slice timers next all : List Armed) (x : Armed) → at < length timers → slice ≡ timers → true ≡ is_same (get_or slice at x).who who → next ≡ remove timers at → take at timers ++ without_timer who (drop at timers) ≡ without_timer who all → IsCancelled who at next all
+cancelled_one who at slice timers next all x within seen same taken told =
+    let test : is_same (get_or timers at x).who who ≡ true = ap (λ (zs : List Armed). is_same (get_or zs at x).who who) (sym seen) ∙ sym same in
     record {
       within = rw taken (omega (arith, length-remove timers at within, within));
-      told = rw taken (one_cancelled t timers at x within test ∙ told);
+      told = rw taken (one_cancelled who timers at x within test ∙ told);
     }
 
 -- the first timer that is due, taken out

@@ -3,11 +3,11 @@ use Rattle.std.proofs.Common.{◌≡◌, ℕ, ◌<◌, ◌++◌, [], ◌∷◌, 
 use Rattle.std.specs.List.{slice_set, slice_index_or}
 use Rattle.std.proofs.lemmas.List.{map-set, get_or-map}
 use Rattle.rk_model.specs.declared.state.Armed.{Armed}
+use Rattle.rk_model.specs.declared.state.Armer.{Armer}
 use Rattle.rk_model.specs.State.{no_cluster, cluster_at, put_cluster}
-use Rattle.rk_model.specs.Timers.{arm, cancel, take_due, without_due}
+use Rattle.rk_model.specs.Timers.{arm, cancel, take_due, without_due, without_timer}
 use Rattle.rk_parts.specs.declared.core_state.ClusterPart.{ClusterPart}
 use Rattle.rk_parts.specs.declared.core_state.Core.{Core}
-use Rattle.rk_parts.specs.Firing.{without_thread}
 use Rattle.rk_parts.specs.Pieces.{cluster_of, plain_of}
 
 -- the cluster of a number is that of its part
@@ -32,7 +32,7 @@ pub put_taken : (core : Core) (c : ℕ) (part : ClusterPart) (timers : List Arme
     plain_of (record core { clusters = slice_set core.clusters c (record part { timers = timers }) }) ≡ take_due (plain_of core) c
 put_taken core c part timers h is e = put_timers core c part timers h is ∙ rw (e, cluster_at-plain_of core c part h is) refl
 
--- to write a part without the timers of a thread is to cancel its timer
-pub put_cancelled : (core : Core) (c t : ℕ) (part : ClusterPart) (timers : List Armed) → c < length core.clusters → part ≡ slice_index_or core.clusters c part → timers ≡ without_thread t part.timers →
-    plain_of (record core { clusters = slice_set core.clusters c (record part { timers = timers }) }) ≡ cancel (plain_of core) c t
-put_cancelled core c t part timers h is e = put_timers core c part timers h is ∙ rw (e, cluster_at-plain_of core c part h is) refl
+-- to write a part without the timers of one is to cancel its timer
+pub put_cancelled : (core : Core) (c : ℕ) (who : Armer) (part : ClusterPart) (timers : List Armed) → c < length core.clusters → part ≡ slice_index_or core.clusters c part → timers ≡ without_timer who part.timers →
+    plain_of (record core { clusters = slice_set core.clusters c (record part { timers = timers }) }) ≡ cancel (plain_of core) c who
+put_cancelled core c who part timers h is e = put_timers core c part timers h is ∙ rw (e, cluster_at-plain_of core c part h is) refl

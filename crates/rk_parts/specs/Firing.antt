@@ -1,17 +1,13 @@
 -- Timers as they fire, one after another, and as they are cancelled.
-use Rattle.std.specs.Prelude.{ℕ, ◌≡◌, List, [], ◌∷◌, Bool, true, false, not, ◌==◌, filter, Option, Some, None}
+use Rattle.std.specs.Prelude.{ℕ, ◌≡◌, List, [], ◌∷◌, Bool, true, false, Option, Some, None}
 use Rattle.rk_model.specs.declared.state.Armed.{Armed}
 use Rattle.rk_model.specs.State.{Plain, cluster_at}
-use Rattle.rk_model.specs.Timers.{due_at, thread_of}
+use Rattle.rk_model.specs.Timers.{due_at}
 use Rattle.rk_model.specs.Ticks.{fire}
 
 abbrev pub head_of : List Armed → Option Armed
 head_of [] = None
 head_of (timer ∷ timers) = Some timer
-
--- these timers without those of a thread
-abbrev pub without_thread : ℕ → List Armed → List Armed
-without_thread t timers = filter (λ (timer : Armed). not (thread_of timer.who == t)) timers
 
 -- the timers of a cluster that are due now
 abbrev pub due_now : Plain → ℕ → List Armed

@@ -2,5 +2,4 @@ pub mod Pieces
 pub mod Registers
 pub mod Settleable
 pub mod Named
-pub mod Leading
 pub mod Firing

@@ -4,7 +4,7 @@ ghost use Rattle.rk_model.specs.State.{put_thread, thread_at};
 ghost use Rattle.rk_model.specs.Running.{all_cpus, cpu_count, running, caller, least, least_from, runs_from, runs_somewhere, is_run_of, why_of};
 ghost use Rattle.rk_model.specs.Outcomes.{landing, work_at, arrived};
 ghost use Rattle.rk_parts.specs.Pieces.{plain_of, clusters_of};
-ghost use Rattle.rk_parts.specs.Leading.{AllLead};
+ghost use Rattle.rk_model.specs.Limits.{AreRunnable};
 
 use crate::core_state::{ClusterPart, Core};
 use crate::standing::{spins, thread_of};
@@ -13,7 +13,7 @@ use rk_model::{Op, Scenario, Thread, ThreadIx, View, Why};
 /// The line of a body at which a thread is that would arrive at a line.
 #[tactic(auto, using(crate::proofs::Leading::goto_within), unfolding(rk_model::specs::Outcomes::landing))]
 fn land(scenario: &Scenario, body: u8, line: u16) -> u16
-    requires { AllLead scenario.now.bodies }
+    requires { AreRunnable scenario.now.bodies }
     ensures { result ≡ landing scenario.now body line }
 {
     match scenario.op_at(body, line) {
@@ -34,7 +34,7 @@ fn work_of(op: Option<Op>) -> u32
 
 /// A thread that has arrived at a line of its body. At a goto it has arrived at the target.
 pub fn arrive(scenario: &Scenario, thread: Thread, line: u16) -> Thread
-    requires { AllLead scenario.now.bodies }
+    requires { AreRunnable scenario.now.bodies }
     ensures { result ≡ arrived scenario.now thread line }
 {
     let line = land(scenario, thread.body, line);

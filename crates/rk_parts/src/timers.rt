@@ -1,11 +1,11 @@
 ghost use Rattle.std.specs.Prelude.{◌≡◌, ◌<◌, ◌≤◌, ◌+◌, ◌-◌, ◌++◌, ◌∷◌, [], ℕ, length};
 ghost use Rattle.rk_model.specs.State.{cluster_at};
-ghost use Rattle.rk_model.specs.Timers.{arm, cancel, due_at, without_due, take_due, thread_of};
+ghost use Rattle.rk_model.specs.Timers.{arm, cancel, due_at, without_due, take_due, is_same as same, without_timer};
 ghost use Rattle.rk_parts.specs.Pieces.{plain_of};
-ghost use Rattle.rk_parts.specs.Firing.{head_of, without_thread};
+ghost use Rattle.rk_parts.specs.Firing.{head_of};
 
 use crate::core_state::{Core, Timers};
-use rk_model::{Armed, Armer, ThreadIx};
+use rk_model::{Armed, Armer};
 
 /// Arms a timer of a cluster, as its last.
 pub fn arm_timer(core: &mut Core, cluster: u8, who: Armer, due: u64)
@@ -16,21 +16,32 @@ pub fn arm_timer(core: &mut Core, cluster: u8, who: Armer, due: u64)
     add(&mut core.clusters.at_mut(cluster as usize).timers, who, due);
 }
 
-/// Cancels the timer of a thread in a cluster, if it has one.
-pub fn cancel_timer(core: &mut Core, cluster: u8, thread: ThreadIx)
+/// Cancels the timer of one in a cluster, if it has one.
+pub fn cancel_timer(core: &mut Core, cluster: u8, who: Armer)
     requires { cluster < length core.old.clusters }
-    ensures { plain_of core.new ≡ cancel (plain_of core.old) cluster thread }
+    ensures { plain_of core.new ≡ cancel (plain_of core.old) cluster who }
 {
-    remove(&mut core.clusters.at_mut(cluster as usize).timers, thread);
+    remove(&mut core.clusters.at_mut(cluster as usize).timers, &who);
 }
 
-/// Takes out the timers of a thread.
-fn remove(timers: &mut Timers, thread: ThreadIx)
-    ensures { timers.new ≡ without_thread thread timers.old }
+/// Whether two timers are of the same one.
+fn is_same(armer: Armer, other: &Armer) -> bool
+    ensures { result ≡ same armer other.now }
+{
+    match armer {
+        Armer::Thread(thread) => match other {
+            Armer::Thread(found) => thread == *found,
+        },
+    }
+}
+
+/// Takes out the timers of one.
+fn remove(timers: &mut Timers, who: &Armer)
+    ensures { timers.new ≡ without_timer who.now timers.old }
 {
     let mut at = 0;
     'looking: while at < timers.len() {
-        if thread_of_timer(timers.as_slice()[at].who) == thread {
+        if is_same(timers.as_slice()[at].who, who) {
             timers.take(at);
         } else {
             at += 1;
@@ -67,13 +78,4 @@ pub fn take_due_of(core: &mut Core, cluster: usize) -> Option<Armed>
 {
     let now = u64::from(core.present);
     take_first(&mut core.clusters.at_mut(cluster).timers, now)
-}
-
-/// The thread whose timer it is.
-pub fn thread_of_timer(who: Armer) -> ThreadIx
-    ensures { result ≡ thread_of who }
-{
-    match who {
-        Armer::Thread(thread) => thread,
-    }
 }
