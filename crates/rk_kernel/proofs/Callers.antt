@@ -12,6 +12,7 @@ use Rattle.rk_model.specs.State.{Plain, ClusterState, thread_at}
 use Rattle.rk_model.specs.Priorities.{is_started, is_no_wait, spins, is_eligible}
 use Rattle.rk_model.specs.Lines.{has_cpu}
 use Rattle.rk_model.specs.Running.{all_cpus, cpu_at, view_of, ready, caller}
+use Rattle.rk_kernel.specs.Calls.{IsActing}
 use Rattle.rk_kernel.specs.Sound.{stands, own, AllSound, IsSound}
 use Rattle.rk_parts.proofs.Tests.{equal_test, and_front, and_back}
 use Rattle.rk_model.proofs.Counts.{times-filter, times-has, times_range}
@@ -127,3 +128,9 @@ viewed_left k (Some u) t h = ready_left k u t (spins k u) h
 -- It has no work left.
 pub caller_works_not : (k : Plain) (p t : ℕ) → caller k p ≡ Some t → (thread_at k t).left ≡ 0
 caller_works_not k p t h = viewed_left k (cpu_at k p) t h
+
+-- It acts.
+pub acting_of : (k : Plain) (p t : ℕ) → IsSound k → caller k p ≡ Some t → IsActing k t
+acting_of k p t sound h =
+    let w = caller_within k p t sound h in
+    record { sound = sound; low = w.0; high = w.1; started = caller_started k p t sound h; waits_not = caller_waits_not k p t sound h; works_not = caller_works_not k p t h }

@@ -1,23 +1,25 @@
--- Each directive changes little, so that settling makes the state sound again.
-use Rattle.std.proofs.Common.{◌≡◌, ◌≢◌, ℕ, ◌+◌, ◌<◌, ◌≤◌, List, Bool, true, false, cond, eqb, ◌&&◌, Option, None, Some, length, arith, refl, sym, ◌∙◌, ap, subst}
-use Rattle.std.specs.List.{slice_set}
+-- Small changes, one after another, so that settling makes the state sound again.
+use Rattle.std.proofs.Common.{◌≡◌, ◌≢◌, ℕ, ◌+◌, ◌≤◌, List, Bool, true, false, eqb, ◌&&◌, Option, None, Some, length, arith, refl, sym, ◌∙◌, ap, subst}
+use Rattle.std.proofs.lemmas.Bool.{false≢true}
 use Rattle.std.proofs.lemmas.Bool.Decides.{nat_tests}
-use Rattle.rk_model.specs.declared.state.Life.TheVariants.{Started, Ended}
 use Rattle.rk_model.specs.declared.scenario.Scenario.{Scenario}
+use Rattle.rk_model.specs.declared.entry.Reply.{Reply}
 use Rattle.rk_model.specs.declared.state.Thread.{Thread}
+use Rattle.rk_model.specs.declared.state.Wait.{Wait}
 use Rattle.rk_model.specs.declared.state.Armed.{Armed}
-use Rattle.rk_model.specs.Lists.{times, with_nth}
+use Rattle.rk_model.specs.declared.state.Armer.TheVariants.{Thread as OfThread}
+use Rattle.rk_model.specs.Lists.{nth, with_nth}
 use Rattle.rk_model.specs.Names.{Names}
 use Rattle.rk_model.specs.State.{Plain, no_thread, thread_at, put_thread, cluster_at, put_cluster}
-use Rattle.rk_model.specs.Timers.{sleepers}
-use Rattle.rk_model.specs.declared.status.Status.TheVariants.{Successful, IncorrectState, AlreadySuspended}
-use Rattle.rk_model.specs.Outcomes.{gone_on, go_on, answer}
-use Rattle.rk_model.specs.Tasks.{is_live, with_suspended, suspend_found, resume_found, task_exit}
+use Rattle.rk_model.specs.Timers.{times_armed, without_timer, arm, cancel}
+use Rattle.rk_model.specs.Outcomes.{stored_vars, finished, go_on, end_wait}
+use Rattle.rk_model.specs.Tasks.{is_live}
 use Rattle.rk_parts.specs.Named.{AreNamed}
-use Rattle.rk_kernel.specs.Sound.{IsSound, IsInBounds, IsGentle, is_timed, has_time, is_in_call}
-use Rattle.rk_kernel.proofs.Indices.{nth-with_same, nth-with_other, nth-with_kept, length-with_nth, All-with_nth}
-use Rattle.rk_kernel.proofs.Bounds.{bounds_at, bounds_in, arrived_bounds}
-use Rattle.rk_kernel.proofs.Timing.{keeps_same, keeps_timers, timed_same, timed_again, timed_put, is_timed-put_thread, is_timed-put_elsewhere, is_timed-with_parts}
+use Rattle.rk_parts.proofs.Tests.{and_front, and_back, equal_test}
+use Rattle.rk_kernel.specs.Sound.{IsSound, IsInBounds, IsGentle, waits_in, is_waiting, is_in_call}
+use Rattle.rk_kernel.proofs.Indices.{nth-with_other, nth-with_kept, nth-with_holds, length-with_nth, All-with_nth}
+use Rattle.rk_kernel.proofs.Bounds.{bounds_in, arrived_bounds}
+use Rattle.rk_kernel.proofs.Timing.{keeps_same, keeps_timers, timed_sound, timed_kept, AllUnarmed, timed_unarmed, timed_fewer, unarmed_without, times-without_timer, none-without_timer, timed_armed}
 use Rattle.rk_kernel.proofs.Naming.{named_put}
 
 -- to change nothing
@@ -29,108 +31,138 @@ gentle_same k sound = record {
   homes = λ u _. refl;
   threads = sound.threads;
   lines = keeps_same k.clusters;
-  timers = timed_same k k 0 k.clusters (λ _ _. refl) sound.clusters;
+  timers = timed_sound k 0 k.clusters sound.clusters;
   named = sound.named;
 }
 
--- to put back one more thread within its bounds, with its home and its wait, which lives as before
-pub gentle_more : (k m : Plain) (t : ℕ) (thread : Thread) → IsGentle k m → thread.home ≡ (thread_at m t).home → thread.wait ≡ (thread_at m t).wait → is_live thread.life ≡ is_live (thread_at m t).life → IsInBounds k.scenario (length k.clusters) k.present thread → IsGentle k (put_thread m t thread)
-gentle_more k m t thread gentle home wait life bounds = record {
+both : (a b : Bool) → a ≡ true → b ≡ true → (a && b) ≡ true
+both a b e f = rw (e, f) refl
+
+waits_put : (threads : List Thread) (t : ℕ) (thread : Thread) → thread.home ≡ (nth no_thread threads t).home → (is_waiting (nth no_thread threads t).wait ≡ true → is_waiting thread.wait ≡ true) → (d u : ℕ) → waits_in threads d u ≡ true → waits_in (with_nth threads t thread) d u ≡ true
+waits_put threads t thread home more d u is = by (eqb u t) refl where
+  Waits : Thread → Type 0
+  Waits x = ((eqb x.home d) && is_waiting x.wait) ≡ true
+
+  by : (b : Bool) → eqb u t ≡ b → waits_in (with_nth threads t thread) d u ≡ true
+  by true e =
+      let same : u ≡ t = grind (arith, nat_tests, e) in
+      let was : Waits (nth no_thread threads t) = subst (λ v. Waits (nth no_thread threads v)) same is in
+      let here : eqb thread.home d ≡ true = ap (λ h. eqb h d) home ∙ and_front (eqb (nth no_thread threads t).home d) (is_waiting (nth no_thread threads t).wait) was in
+      let now : Waits thread = both (eqb thread.home d) (is_waiting thread.wait) here (more (and_back (eqb (nth no_thread threads t).home d) (is_waiting (nth no_thread threads t).wait) was)) in
+      nth-with_holds Waits no_thread thread threads t u now is
+  by false e =
+      let other : u ≢ t = λ q. false≢true (sym e ∙ equal_test u t q) in
+      ap (λ (x : Thread). (eqb x.home d) && is_waiting x.wait) (nth-with_other no_thread thread threads t u other) ∙ is
+
+-- to put back a thread within its bounds, with its home, which lives as before, and waits where it waited
+pub gentle_put : (k m : Plain) (t : ℕ) (thread : Thread) → IsGentle k m → thread.home ≡ (thread_at m t).home → (is_waiting (thread_at m t).wait ≡ true → is_waiting thread.wait ≡ true) → is_live thread.life ≡ is_live (thread_at m t).life → IsInBounds k.scenario (length k.clusters) k.present thread → IsGentle k (put_thread m t thread)
+gentle_put k m t thread gentle home more life bounds = record {
   scenario = gentle.scenario;
   present = gentle.present;
   places = length-with_nth thread m.threads t ∙ gentle.places;
   homes = λ u h. nth-with_kept (λ (x : Thread). x.home) no_thread thread m.threads t u home ∙ gentle.homes u h;
   threads = All-with_nth (IsInBounds k.scenario (length k.clusters) k.present) thread m.threads t bounds gentle.threads;
   lines = gentle.lines;
-  timers = timed_again m (put_thread m t thread) 0 m.clusters (is_timed-put_thread m t thread home wait) gentle.timers;
+  timers = timed_kept m.threads (with_nth m.threads t thread) 0 m.clusters (waits_put m.threads t thread home more) gentle.timers;
   named = named_put m.tasks m.threads t thread life gentle.named;
 }
 
--- to put back a thread within its bounds, with its home and its wait, which lives as before
-pub gentle_put : (k : Plain) (t : ℕ) (thread : Thread) → IsSound k → thread.home ≡ (thread_at k t).home → thread.wait ≡ (thread_at k t).wait → is_live thread.life ≡ is_live (thread_at k t).life → IsInBounds k.scenario (length k.clusters) k.present thread → IsGentle k (put_thread k t thread)
-gentle_put k t thread sound home wait life bounds = gentle_more k k t thread (gentle_same k sound) home wait life bounds
+-- to put back a thread that has no timer, within its bounds and with its home, and names that agree with the threads
+pub gentle_unarmed : (k m : Plain) (t : ℕ) (thread : Thread) (tasks : Names) → IsGentle k m → AllUnarmed t m.clusters → thread.home ≡ (thread_at m t).home → AreNamed tasks (with_nth m.threads t thread) → IsInBounds k.scenario (length k.clusters) k.present thread → IsGentle k (record (put_thread m t thread) { tasks = tasks })
+gentle_unarmed k m t thread tasks gentle none home named bounds = record {
+  scenario = gentle.scenario;
+  present = gentle.present;
+  places = length-with_nth thread m.threads t ∙ gentle.places;
+  homes = λ u h. nth-with_kept (λ (x : Thread). x.home) no_thread thread m.threads t u home ∙ gentle.homes u h;
+  threads = All-with_nth (IsInBounds k.scenario (length k.clusters) k.present) thread m.threads t bounds gentle.threads;
+  lines = gentle.lines;
+  timers = timed_unarmed m.threads (with_nth m.threads t thread) t 0 m.clusters none (λ d u other is. ap (λ (x : Thread). (eqb x.home d) && is_waiting x.wait) (nth-with_other no_thread thread m.threads t u other) ∙ is) gentle.timers;
+  named = named;
+}
 
-elsewhere : (k : Plain) (t d : ℕ) → d ≢ (thread_at k t).home → eqb (thread_at k t).home d ≡ false
-elsewhere k t d other = grind (arith, nat_tests, other)
+-- to have other timers in a cluster, of no thread more
+pub gentle_fewer : (k m : Plain) (h : ℕ) (timers : List Armed) → IsGentle k m → ((t : ℕ) → times_armed (OfThread t) timers ≤ times_armed (OfThread t) (cluster_at m h).timers) → IsGentle k (put_cluster m h (record (cluster_at m h) { timers = timers }))
+gentle_fewer k m h timers gentle fewer = record {
+  scenario = gentle.scenario;
+  present = gentle.present;
+  places = gentle.places;
+  homes = gentle.homes;
+  threads = gentle.threads;
+  lines = keeps_timers k.clusters m.clusters h timers gentle.lines;
+  timers = timed_fewer m.threads 0 h m.clusters timers fewer gentle.timers;
+  named = gentle.named;
+}
 
--- to put back a thread within its bounds, with its home, and other timers there, which are those of its threads whose wait has one, and other names that agree with the threads
-pub gentle_timers : (k : Plain) (t h : ℕ) (thread : Thread) (timers : List Armed) (tasks : Names) → IsSound k → h ≡ (thread_at k t).home → thread.home ≡ (thread_at k t).home → IsInBounds k.scenario (length k.clusters) k.present thread →
-    AreNamed tasks (with_nth k.threads t thread) →
-    ((u : ℕ) → times u (sleepers timers) ≡ cond (is_timed (put_thread k t thread) h u) 1 0) →
-    IsGentle k (record (put_cluster (put_thread k t thread) h (record (cluster_at k h) { timers = timers })) { tasks = tasks })
-gentle_timers k t h thread timers tasks sound e home bounds named here =
-    let clusters = slice_set k.clusters h (record (cluster_at k h) { timers = timers }) in
+-- to cancel a thread's timer
+pub gentle_cancel : (k m : Plain) (h t : ℕ) → IsGentle k m → IsGentle k (cancel m h (OfThread t))
+gentle_cancel k m h t gentle = gentle_fewer k m h (without_timer (OfThread t) (cluster_at m h).timers) gentle (λ u. times-without_timer t u (cluster_at m h).timers)
+
+elsewhere : (h d : ℕ) (b : Bool) → d ≢ h → ((eqb h d) && b) ≡ false
+elsewhere h d b other = let test : eqb h d ≡ false = grind (arith, nat_tests, other) in rw test refl
+
+-- where a thread's timer is cancelled in its home, it has none
+pub cancelled : (k m : Plain) (t : ℕ) → IsGentle k m → AllUnarmed t (cancel m (thread_at m t).home (OfThread t)).clusters
+cancelled k m t gentle =
+    let h = (thread_at m t).home in
+    unarmed_without m.threads t h 0 h m.clusters (without_timer (OfThread t) (cluster_at m h).timers) (omega arith) (λ d other. elsewhere h d (is_waiting (thread_at m t).wait) other) (none-without_timer t (cluster_at m h).timers) gentle.timers
+
+-- to arm the timer of a thread that waits and has none
+pub gentle_arm : (k m : Plain) (h t due : ℕ) → IsGentle k m → waits_in m.threads h t ≡ true → times_armed (OfThread t) (cluster_at m h).timers ≡ 0 → IsGentle k (arm m h (record { who = OfThread t; due = due }))
+gentle_arm k m h t due gentle waits none = record {
+  scenario = gentle.scenario;
+  present = gentle.present;
+  places = gentle.places;
+  homes = gentle.homes;
+  threads = gentle.threads;
+  lines = keeps_timers k.clusters m.clusters h _ gentle.lines;
+  timers = timed_armed m.threads t due h 0 h m.clusters (omega arith) waits none gentle.timers;
+  named = gentle.named;
+}
+
+waits_calls : (wait : Option Wait) (reply : Option Reply) → is_waiting wait ≡ true → is_in_call wait reply ≡ true
+waits_calls None reply h = absurd (false≢true h)
+waits_calls (Some w) reply h = refl
+
+-- to end the wait of a thread with a reply
+pub gentle_end_wait : (k m : Plain) (t : ℕ) (reply : Reply) → IsSound k → IsGentle k m → is_waiting (thread_at m t).wait ≡ true → IsGentle k (end_wait m t reply)
+gentle_end_wait k m t reply sound gentle waits =
+    let h = (thread_at m t).home in
+    let b = bounds_in k m t sound gentle in
+    let calls = waits_calls (thread_at m t).wait (thread_at m t).finished waits in
+    let thread : Thread = record (thread_at m t) { wait = None; finished = Some reply } in
+    gentle_unarmed k (cancel m h (OfThread t)) t thread m.tasks (gentle_cancel k m h t gentle) (cancelled k m t gentle) refl (named_put m.tasks m.threads t thread refl gentle.named)
+    (record { home = b.home; line = b.line; working = b.working; calling = λ _. b.calling calls; apart = λ w. absurd (false≢true (sym (b.apart w) ∙ calls)); acts = b.acts; idle = λ s. absurd (false≢true (sym (b.idle s) ∙ calls)); computed = b.computed })
+
+-- A gentle change after which a thread can still go on: it has a line, and is in no directive that waits.
+pub record Stays (k next : Plain) (t : ℕ) : Type 0 where
+  pub gentle : IsGentle k next
+  pub line : (thread_at next t).line ≤ 1000
+  pub free : is_in_call (thread_at next t).wait (thread_at next t).finished ≡ false
+
+-- such a thread stores an out number and goes on
+pub gentle_go_on : (k m : Plain) (t out : ℕ) → IsSound k → Stays k m t → IsGentle k (go_on m t out)
+gentle_go_on k m t out sound stays =
+    let b = bounds_in k m t sound stays.gentle in
+    gentle_put k m t (finished m.scenario (thread_at m t) out) stays.gentle refl (λ w. w) refl
+    (subst (λ (s : Scenario). IsInBounds k.scenario (length k.clusters) k.present (finished s (thread_at m t) out)) (sym stays.gentle.scenario)
+    (arrived_bounds k.scenario (length k.clusters) k.present (record (thread_at m t) { vars = stored_vars k.scenario (thread_at m t) out }) ((thread_at m t).line + 1) sound.bodies b.home (omega (arith, stays.line)) b.computed stays.free))
+
+-- A thread still can go on where one is put back within its bounds that has the same home, line, wait and reply, and lives as before.
+pub stays_put : (k m : Plain) (t u : ℕ) (thread : Thread) → Stays k m t → thread.home ≡ (thread_at m u).home → thread.line ≡ (thread_at m u).line → thread.wait ≡ (thread_at m u).wait → thread.finished ≡ (thread_at m u).finished → is_live thread.life ≡ is_live (thread_at m u).life → IsInBounds k.scenario (length k.clusters) k.present thread → Stays k (put_thread m u thread) t
+stays_put k m t u thread stays home line wait reply life bounds =
+    let kept : (nth no_thread (with_nth m.threads u thread) t).line ≡ (thread_at m t).line = nth-with_kept (λ (x : Thread). x.line) no_thread thread m.threads u t line in
     record {
-      scenario = refl;
-      present = refl;
-      places = length-with_nth thread k.threads t;
-      homes = λ u _. nth-with_kept (λ (x : Thread). x.home) no_thread thread k.threads t u home;
-      threads = All-with_nth (IsInBounds k.scenario (length k.clusters) k.present) thread k.threads t bounds sound.threads;
-      lines = keeps_timers k.clusters h timers;
-      timers = timed_put k (record (put_thread k t thread) { clusters = clusters; tasks = tasks }) h 0 h k.clusters (record (cluster_at k h) { timers = timers }) (omega arith)
-          (λ d u other. is_timed-with_parts (put_thread k t thread) clusters tasks d u ∙ is_timed-put_elsewhere k t thread home d u (elsewhere k t d (λ q. other (q ∙ sym e))))
-          (λ u. here u ∙ ap (λ b. cond b 1 0) (sym (is_timed-with_parts (put_thread k t thread) clusters tasks h u)))
-          sound.clusters;
-      named = named;
+      gentle = gentle_put k m u thread stays.gentle home (λ w. ap is_waiting wait ∙ w) life bounds;
+      line = omega (arith, kept, stays.line);
+      free = nth-with_kept (λ (x : Thread). is_in_call x.wait x.finished) no_thread thread m.threads u t (rw (wait, reply) refl) ∙ stays.free;
     }
 
-home_is : (h : ℕ) (b : Bool) → ((eqb h h) && b) ≡ b
-home_is h b = grind (arith, nat_tests)
-
--- a thread that was put has a timer in its home where its wait has one
-pub is_timed_here : (k : Plain) (t h : ℕ) (thread : Thread) → 0 < t → t ≤ length k.threads → thread.home ≡ h → is_timed (put_thread k t thread) h t ≡ has_time thread.wait
-unfolding is_timed
-is_timed_here k t h thread above within home = rw (nth-with_same no_thread thread k.threads t above within) (ap (λ x. (eqb x h) && has_time thread.wait) home ∙ home_is h (has_time thread.wait))
-
--- the other threads have timers as before
-pub is_timed_other : (k : Plain) (t d u : ℕ) (thread : Thread) → u ≢ t → is_timed (put_thread k t thread) d u ≡ is_timed k d u
-unfolding is_timed
-is_timed_other k t d u thread other = rw (nth-with_other no_thread thread k.threads t u other) refl
-
-pub exit_gentle : (k : Plain) (t : ℕ) → IsSound k → (thread_at k t).life ≡ Started → is_in_call (thread_at k t).wait (thread_at k t).finished ≡ false → IsGentle k (task_exit k t).next
-exit_gentle k t sound started free =
-    let b = bounds_at k t sound in
-    gentle_put k t (record (thread_at k t) { life = Ended }) sound refl refl (ap is_live (sym started)) (record { home = b.home; line = b.line; working = b.working; calling = b.calling; apart = b.apart; acts = b.acts; idle = λ _. free; computed = b.computed })
-
--- a thread that is in no call goes on after a gentle change
-pub go_on_more : (k m : Plain) (t : ℕ) → IsSound k → IsGentle k m → (thread_at m t).line ≤ 1000 → is_in_call (thread_at m t).wait (thread_at m t).finished ≡ false → IsGentle k (go_on m t)
-go_on_more k m t sound gentle low free =
-    let b = bounds_in k m t sound gentle in
-    gentle_more k m t (gone_on m.scenario (thread_at m t)) gentle refl refl refl
-    (subst (λ (s : Scenario). IsInBounds k.scenario (length k.clusters) k.present (gone_on s (thread_at m t))) (sym gentle.scenario)
-    (arrived_bounds k.scenario (length k.clusters) k.present (thread_at m t) ((thread_at m t).line + 1) sound.bodies sound.targets sound.ops b.home (omega arith) b.computed free))
-
--- a thread that is in no call goes on
-pub go_on_gentle : (k : Plain) (t : ℕ) → IsSound k → (thread_at k t).line ≤ 1000 → is_in_call (thread_at k t).wait (thread_at k t).finished ≡ false → IsGentle k (go_on k t)
-go_on_gentle k t sound low free = go_on_more k k t sound (gentle_same k sound) low free
-
--- to suspend a thread, or to let a suspended one go on
-suspended_gentle : (k : Plain) (u : ℕ) (suspended : Bool) → IsSound k → IsGentle k (with_suspended k u suspended)
-suspended_gentle k u suspended sound =
-    let b = bounds_at k u sound in
-    gentle_put k u (record (thread_at k u) { suspended = suspended }) sound refl refl refl (record { home = b.home; line = b.line; working = b.working; calling = b.calling; apart = b.apart; acts = b.acts; idle = b.idle; computed = b.computed })
-
--- the same where a thread that is in no call goes on then
-go_on_suspended : (k : Plain) (t u : ℕ) (suspended : Bool) → IsSound k → (thread_at k t).line ≤ 1000 → is_in_call (thread_at k t).wait (thread_at k t).finished ≡ false → IsGentle k (go_on (with_suspended k u suspended) t)
-go_on_suspended k t u suspended sound low free =
-    let m = with_suspended k u suspended in
-    let thread : Thread = record (thread_at k u) { suspended = suspended } in
-    let line : (thread_at m t).line ≡ (thread_at k t).line = nth-with_kept (λ (x : Thread). x.line) no_thread thread k.threads u t refl in
-    let call : is_in_call (thread_at m t).wait (thread_at m t).finished ≡ is_in_call (thread_at k t).wait (thread_at k t).finished = nth-with_kept (λ (x : Thread). is_in_call x.wait x.finished) no_thread thread k.threads u t refl in
-    go_on_more k m t sound (suspended_gentle k u suspended sound) (omega (arith, line, low)) (call ∙ free)
-
--- A thread that is in no call suspends a task.
-pub suspend_gentle : (k : Plain) (t : ℕ) (found : Option ℕ) → IsSound k → (thread_at k t).line ≤ 1000 → is_in_call (thread_at k t).wait (thread_at k t).finished ≡ false → IsGentle k (suspend_found k t found).next
-suspend_gentle k t None sound low free = go_on_gentle k t sound low free
-suspend_gentle k t (Some u) sound low free = by (thread_at k u).suspended where
-  by : (b : Bool) → IsGentle k (cond b (answer AlreadySuspended k t) (answer Successful (with_suspended k u true) t)).next
-  by true = go_on_gentle k t sound low free
-  by false = go_on_suspended k t u true sound low free
-
--- A thread that is in no call lets a task go on.
-pub resume_gentle : (k : Plain) (t : ℕ) (found : Option ℕ) → IsSound k → (thread_at k t).line ≤ 1000 → is_in_call (thread_at k t).wait (thread_at k t).finished ≡ false → IsGentle k (resume_found k t found).next
-resume_gentle k t None sound low free = go_on_gentle k t sound low free
-resume_gentle k t (Some u) sound low free = by (thread_at k u).suspended where
-  by : (b : Bool) → IsGentle k (cond b (answer Successful (with_suspended k u false) t) (answer IncorrectState k t)).next
-  by true = go_on_suspended k t u false sound low free
-  by false = go_on_gentle k t sound low free
+-- A thread still can go on after a gentle change of which it is left out.
+pub stays_apart : (k m next : Plain) (t u : ℕ) (thread : Thread) → Stays k m t → t ≢ u → next.threads ≡ with_nth m.threads u thread → IsGentle k next → Stays k next t
+stays_apart k m next t u thread stays other put gentle =
+    let same : thread_at next t ≡ thread_at m t = ap (λ (ts : List Thread). nth no_thread ts t) put ∙ nth-with_other no_thread thread m.threads u t other in
+    record {
+      gentle = gentle;
+      line = subst (λ (x : Thread). x.line ≤ 1000) (sym same) stays.line;
+      free = ap (λ (x : Thread). is_in_call x.wait x.finished) same ∙ stays.free;
+    }

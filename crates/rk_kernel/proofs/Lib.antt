@@ -3,6 +3,7 @@ pub mod Naming
 pub mod Bounds
 pub mod Timing
 pub mod Gentle
+pub mod Fair
 pub mod Tasking
 pub mod Sleeping
 pub mod Moving
@@ -14,6 +15,7 @@ pub mod Ready
 pub mod Passing
 pub mod Firings
 pub mod Runs
+pub mod Directing
 pub mod Reached
 pub mod Belonging
 pub mod Seats

@@ -1,5 +1,5 @@
 -- The opening state is sound: it is the state with no task yet, changed gently and settled.
-use Rattle.std.proofs.Common.{◌≡◌, add-one, ℕ, zero, suc, ◌+◌, ◌<◌, ◌≤◌, List, [], ◌∷◌, false, cond, ◌==◌, Option, None, length, get_or, length-append, length-take, ◌++◌, take, map, replicate, arith, refl, ap, sym, ◌∙◌}
+use Rattle.std.proofs.Common.{◌≡◌, add-one, ℕ, zero, suc, ◌+◌, ◌<◌, ◌≤◌, List, [], ◌∷◌, false, ◌==◌, Option, None, length, get_or, length-append, length-take, ◌++◌, take, map, replicate, arith, refl, ap, sym, ◌∙◌}
 use Rattle.std.specs.List.{AllByRecursion, range_with_len, slice_set}
 use Rattle.std.proofs.lemmas.List.{length-replicate, length-map, map-append, take_more}
 use Rattle.std.proofs.lemmas.List.Elements.{All-from_recursion}
@@ -20,10 +20,10 @@ use Rattle.rk_model.specs.Scenarios.{cpus_in}
 use Rattle.rk_model.specs.Limits.{IsWithinLimits}
 use Rattle.rk_kernel.proofs.Beginning.{named_vacant, named_begun}
 use Rattle.rk_kernel.proofs.Bounds.{none_bounds, arrived_bounds}
-use Rattle.rk_kernel.specs.Sound.{stands, own, is_timed, AllSound, IsInBounds, IsSound, AllTimed, IsGentle}
+use Rattle.rk_kernel.specs.Sound.{stands, own, AllSound, IsInBounds, IsSound, AllTimed, IsGentle}
 use Rattle.rk_model.proofs.Counts.{times-filter}
 use Rattle.rk_parts.proofs.Tests.{and_false}
-use Rattle.rk_kernel.proofs.Timing.{never_timed, keeps_same}
+use Rattle.rk_kernel.proofs.Timing.{keeps_same}
 use Rattle.rk_kernel.proofs.Soundness.{sound_settled}
 
 pub length-places : (n : ℕ) (threads : List Thread) → length (places n threads) ≡ n
@@ -52,9 +52,6 @@ never_stands k c t none = rw none (and_false ((thread_at k t).home == c))
 none_own : (k : Plain) (c t : ℕ) → is_eligible k t ≡ false → 0 ≡ times t (own k c)
 none_own k c t none = sym (times-filter (stands k c) t (range_with_len 1 (length k.threads)) ∙ (rw (never_stands k c t none) refl))
 
-none_timed : (k : Plain) (c t : ℕ) → (thread_at k t).wait ≡ None → ◌≡◌ {A = ℕ} 0 (cond (is_timed k c t) 1 0)
-none_timed k c t none = rw (never_timed k c t none) refl
-
 none_seated : (m t : ℕ) → has_cpu (replicate m None) t ≡ false
 none_seated zero t = refl
 none_seated (suc m) t = none_seated m t
@@ -67,15 +64,15 @@ all_free k c (m ∷ counts) none few = (
     few_cpus = rw length-replicate (omega arith);
     line = λ t. none_own k c t (never_eligible k t (none t));
     manned = λ t h. absurd (false≢true (sym (none_seated m t) ∙ h));
-    timers = λ t. none_timed k c t (ap (λ (x : Thread). x.wait) (none t));
+    timers = λ t. omega arith;
   },
   all_free k (c + 1) counts none (omega arith),
 )
 
--- no timers serve threads that don't wait
-all_untimed : (k : Plain) (c : ℕ) (counts : List ℕ) → ((t : ℕ) → (thread_at k t).wait ≡ None) → AllTimed k c (map free_cluster counts)
-all_untimed k c [] none = tt
-all_untimed k c (m ∷ counts) none = (λ t. none_timed k c t (none t), all_untimed k (c + 1) counts none)
+-- free clusters have no timers
+all_untimed : (threads : List Thread) (c : ℕ) (counts : List ℕ) → AllTimed threads c (map free_cluster counts)
+all_untimed threads c [] = tt
+all_untimed threads c (m ∷ counts) = (λ t. omega arith, all_untimed threads (c + 1) counts)
 
 cpus-free : (counts : List ℕ) → length (all_cpus (map free_cluster counts)) ≡ cpus_in counts
 cpus-free [] = refl
@@ -83,24 +80,12 @@ cpus-free (m ∷ counts) = omega (arith, length-append (replicate m (let n : Opt
 
 -- a thread of an init line is within its bounds
 bounds_begun : (s : Scenario) (init : Init) (m : ℕ) → IsWithinLimits s → init.cluster < m → IsInBounds s m 0 (begun s init)
-bounds_begun s init m within home = arrived_bounds s m 0 (record no_thread { life = Started; home = init.cluster; base = init.prio; body = init.body }) 1 within.bodies within.targets within.ops home (omega arith) (omega arith) refl
+bounds_begun s init m within home = arrived_bounds s m 0 (record no_thread { life = Started; home = init.cluster; base = init.prio; body = init.body }) 1 within.bodies home (omega arith) (omega arith) refl
 
 all_begun : (s : Scenario) (m n : ℕ) (inits : List Init) → IsWithinLimits s → 0 < m → AllByRecursion (λ (init : Init). init.cluster < m) inits → AllByRecursion (IsInBounds s m 0) (places n (map (begun s) inits))
 all_begun s m zero inits within some homes = tt
 all_begun s m (suc n) [] within some homes = (none_bounds s m 0 some, all_begun s m n [] within some tt)
 all_begun s m (suc n) (init ∷ inits) within some homes = (bounds_begun s init m within homes.0, all_begun s m n inits within some homes.1)
-
-waits_not_from : (s : Scenario) (n : ℕ) (inits : List Init) (i : ℕ) → (get_or (places n (map (begun s) inits)) i no_thread).wait ≡ None
-waits_not_from s zero inits i = refl
-waits_not_from s (suc n) [] zero = refl
-waits_not_from s (suc n) [] (suc i) = waits_not_from s n [] i
-waits_not_from s (suc n) (init ∷ inits) zero = refl
-waits_not_from s (suc n) (init ∷ inits) (suc i) = waits_not_from s n inits i
-
--- no thread waits at opening
-waits_not : (s : Scenario) (n : ℕ) (inits : List Init) (t : ℕ) → (nth no_thread (places n (map (begun s) inits)) t).wait ≡ None
-waits_not s n inits zero = refl
-waits_not s n inits (suc i) = waits_not_from s n inits i
 
 pub sound_vacant : (s : Scenario) → IsWithinLimits s → IsSound (vacant s)
 sound_vacant s within =
@@ -113,8 +98,6 @@ sound_vacant s within =
       horizon = within.horizon;
       present = omega arith;
       bodies = within.bodies;
-      targets = within.targets;
-      ops = within.ops;
       threads = rw size (All-from_recursion (IsInBounds s (length s.clusters) 0) (places 64 []) (all_begun s (length s.clusters) 64 [] within within.some_cluster tt));
       clusters = all_free (vacant s) 0 s.clusters (no_place 64) within.few_cpus;
       named = named_vacant s;
@@ -131,7 +114,7 @@ gentle_started s within =
       homes = λ t h. absurd (false≢true (sym (never_eligible (vacant s) t (no_place 64 t)) ∙ h));
       threads = rw size (All-from_recursion (IsInBounds s (length s.clusters) 0) threads (all_begun s (length s.clusters) 64 s.inits within within.some_cluster within.homes));
       lines = keeps_same (vacant s).clusters;
-      timers = all_untimed (started s) 0 s.clusters (waits_not s 64 s.inits);
+      timers = all_untimed threads 0 s.clusters;
       named = named_begun s s.inits within.few_inits;
     }
 

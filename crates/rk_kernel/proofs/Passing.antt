@@ -4,7 +4,6 @@ use Rattle.std.specs.List.{AllByRecursion, range_with_len}
 use Rattle.std.proofs.lemmas.Bool.Decides.{nat_tests}
 use Rattle.std.proofs.lemmas.List.Elements.{filter_agree, All-from_recursion, recursion_from_All}
 use Rattle.rk_model.specs.declared.scenario.Scenario.{Scenario}
-use Rattle.rk_model.specs.declared.scenario.Body.{Body}
 use Rattle.rk_model.specs.declared.state.Thread.{Thread}
 use Rattle.rk_model.specs.declared.state.Wait.{Wait}
 use Rattle.rk_model.specs.declared.state.Wait.TheVariants.{ForTime}
@@ -14,8 +13,10 @@ use Rattle.rk_model.specs.Priorities.{is_eligible, is_started, is_no_wait, spins
 use Rattle.rk_model.specs.Tasks.{is_live}
 use Rattle.rk_model.specs.Running.{runs_somewhere}
 use Rattle.rk_model.specs.Ticks.{charged, ticked, charge_from, pass}
-use Rattle.rk_parts.specs.Leading.{AllLead}
-use Rattle.rk_kernel.specs.Sound.{AllGoOn, IsSound, IsInBounds, AllSound, own, stands, is_timed, has_time}
+use Rattle.rk_model.specs.Limits.{AreRunnable}
+use Rattle.rk_kernel.specs.Sound.{IsSound, IsInBounds, AllSound, own, stands, waits_in, is_waiting}
+use Rattle.rk_model.specs.declared.state.Armer.TheVariants.{Thread as OfThread}
+use Rattle.rk_model.specs.Timers.{times_armed}
 use Rattle.rk_kernel.proofs.Bounds.{arrived_bounds}
 
 -- what holds at each of two outcomes of a test holds of the choice
@@ -59,9 +60,8 @@ unfolding stands
 stands-pass k c t =
     ap (λ b. (eqb (thread_at (pass k) t).home c) && b) (eligible-pass k t) ∙ ap (λ h. (eqb h c) && is_eligible k t) (passed_steady (λ (x : Thread). x.home) k t (λ _ _ _ _. refl))
 
-timed-pass : (k : Plain) (c t : ℕ) → is_timed (pass k) c t ≡ is_timed k c t
-unfolding is_timed
-timed-pass k c t = passed_steady (λ (x : Thread). (eqb x.home c) && has_time x.wait) k t (λ _ _ _ _. refl)
+timed-pass : (k : Plain) (c t : ℕ) → waits_in (pass k).threads c t ≡ waits_in k.threads c t
+timed-pass k c t = passed_steady (λ (x : Thread). (eqb x.home c) && is_waiting x.wait) k t (λ _ _ _ _. refl)
 
 own-pass : (k : Plain) (c : ℕ) → own (pass k) c ≡ own k c
 own-pass k c = rw length-charge_from (filter_agree (stands (pass k) c) (stands k c) (stands-pass k c) (range_with_len 1 (length k.threads)))
@@ -73,7 +73,7 @@ sound_clusters k c (cluster ∷ clusters) sound = (
     few_cpus = sound.0.few_cpus;
     line = λ t. sound.0.line t ∙ ap (times t) (sym (own-pass k c));
     manned = sound.0.manned;
-    timers = λ t. sound.0.timers t ∙ ap (λ b. cond b 1 0) (sym (timed-pass k c t));
+    timers = λ t. (let few : times_armed (OfThread t) cluster.timers ≤ cond (waits_in (pass k).threads c t) 1 0 = rw (timed-pass k c t) (sound.0.timers t) in few);
   },
   sound_clusters k (c + 1) clusters sound.1,
 )
@@ -84,26 +84,26 @@ more_left (suc zero) some more none = grind (arith, nat_tests, more)
 more_left (suc (suc n)) some more none = omega (arith, none)
 
 -- a thread that is charged in a tick is within the bounds after it
-charged_bounds : (s : Scenario) (n p : ℕ) (x : Thread) → AllByRecursion (λ (body : Body). length body.lines ≤ 1000) s.bodies → AllLead s.bodies → AllGoOn s.bodies → IsInBounds s n p x → IsInBounds s n (p + 1) (charged s x)
-charged_bounds s n p x short lead goes b =
+charged_bounds : (s : Scenario) (n p : ℕ) (x : Thread) → AreRunnable s.bodies → IsInBounds s n p x → IsInBounds s n (p + 1) (charged s x)
+charged_bounds s n p x runs b =
     let P : Thread → Type 0 = IsInBounds s n (p + 1) in
     by_test P (eqb x.left 0) _ _ (λ _. record { home = b.home; line = b.line; working = b.working; calling = b.calling; apart = b.apart; acts = b.acts; idle = b.idle; computed = omega (arith, b.computed) })
     (λ some. by_test P (eqb x.left 1) _ _
     (λ one.
     let left : 0 < x.left = grind (arith, nat_tests) in
-    let a = arrived_bounds s n p x (x.line + 1) short lead goes b.home (omega (arith, b.working left)) b.computed (b.apart left) in
+    let a = arrived_bounds s n p x (x.line + 1) runs b.home (omega (arith, b.working left)) b.computed (b.apart left) in
     record { home = a.home; line = a.line; working = a.working; calling = a.calling; apart = a.apart; acts = a.acts; idle = a.idle; computed = omega (arith, b.computed) })
-    (λ more. record { home = b.home; line = b.line; working = λ w. b.working (omega (arith, w)); calling = b.calling; apart = λ w. b.apart (omega (arith, w)); acts = λ none _. absurd (more_left x.left some more none); idle = b.idle; computed = omega (arith, b.computed) }))
+    (λ more. record { home = b.home; line = b.line; working = λ w. b.working (omega (arith, w)); calling = b.calling; apart = λ w. b.apart (omega (arith, w)); acts = λ none. absurd (more_left x.left some more none); idle = b.idle; computed = omega (arith, b.computed) }))
 
 later_bounds : (s : Scenario) (n p : ℕ) (x : Thread) → IsInBounds s n p x → IsInBounds s n (p + 1) x
 later_bounds s n p x b = record { home = b.home; line = b.line; working = b.working; calling = b.calling; apart = b.apart; acts = b.acts; idle = b.idle; computed = omega (arith, b.computed) }
 
-charge_bounds : (k : Plain) (n t : ℕ) (ts : List Thread) → AllByRecursion (λ (body : Body). length body.lines ≤ 1000) k.scenario.bodies → AllLead k.scenario.bodies → AllGoOn k.scenario.bodies → AllByRecursion (IsInBounds k.scenario n k.present) ts → AllByRecursion (IsInBounds k.scenario n (k.present + 1)) (charge_from k t ts)
+charge_bounds : (k : Plain) (n t : ℕ) (ts : List Thread) → AreRunnable k.scenario.bodies → AllByRecursion (IsInBounds k.scenario n k.present) ts → AllByRecursion (IsInBounds k.scenario n (k.present + 1)) (charge_from k t ts)
 unfolding ticked
-charge_bounds k n t [] short lead goes all = tt
-charge_bounds k n t (x ∷ xs) short lead goes all =
+charge_bounds k n t [] runs all = tt
+charge_bounds k n t (x ∷ xs) runs all =
     let P : Thread → Type 0 = IsInBounds k.scenario n (k.present + 1) in
-    (by_test P (runs_somewhere k t) _ _ (λ _. charged_bounds k.scenario n k.present x short lead goes all.0) (λ _. later_bounds k.scenario n k.present x all.0), charge_bounds k n (t + 1) xs short lead goes all.1)
+    (by_test P (runs_somewhere k t) _ _ (λ _. charged_bounds k.scenario n k.present x runs all.0) (λ _. later_bounds k.scenario n k.present x all.0), charge_bounds k n (t + 1) xs runs all.1)
 
 -- A tick below the horizon keeps a state sound.
 pub sound_pass : (k : Plain) → IsSound k → k.present < k.scenario.horizon → IsSound (pass k)
@@ -115,9 +115,7 @@ sound_pass k sound below = record {
   horizon = sound.horizon;
   present = omega arith;
   bodies = sound.bodies;
-  targets = sound.targets;
-  ops = sound.ops;
-  threads = All-from_recursion (IsInBounds k.scenario (length k.clusters) (k.present + 1)) _ (charge_bounds k (length k.clusters) 1 k.threads sound.bodies sound.targets sound.ops (recursion_from_All (IsInBounds k.scenario (length k.clusters) k.present) k.threads sound.threads));
+  threads = All-from_recursion (IsInBounds k.scenario (length k.clusters) (k.present + 1)) _ (charge_bounds k (length k.clusters) 1 k.threads sound.bodies (recursion_from_All (IsInBounds k.scenario (length k.clusters) k.present) k.threads sound.threads));
   clusters = sound_clusters k 0 k.clusters sound.clusters;
   named = record { split = sound.named.split; live = λ t. sound.named.live t ∙ ap (λ b. cond b 1 0) (sym (passed_steady (λ (x : Thread). is_live x.life) k t (λ _ _ _ _. refl))) };
 }

@@ -8,7 +8,6 @@ use Rattle.rk_model.specs.declared.state.Armed.{Armed}
 use Rattle.rk_model.specs.State.{Plain}
 use Rattle.rk_model.specs.Settling.{settle}
 use Rattle.rk_model.specs.Running.{caller, least}
-use Rattle.rk_model.specs.Timers.{thread_of}
 use Rattle.rk_model.specs.Ticks.{pass, expire, fire, fire_each, fire_cluster, fire_from, tick}
 use Rattle.rk_model.specs.Steps.{Act, action, act_of, clock_of, clock_entry, act}
 use Rattle.rk_model.specs.Histories.{vacant, started, opening, next_of, next_by, after_from, after, Legal}
@@ -17,8 +16,10 @@ use Rattle.rk_model.specs.Scenarios.{IsScenario}
 use Rattle.rk_model.proofs.Limits.{limits_of}
 use Rattle.rk_parts.specs.Firing.{due_now}
 use Rattle.rk_kernel.specs.Sound.{IsSound, IsGentle}
-use Rattle.rk_kernel.proofs.Callers.{caller_started, caller_waits_not, caller_works_not, caller_within}
-use Rattle.rk_kernel.proofs.Sleeping.{action_gentle}
+use Rattle.rk_kernel.proofs.Callers.{acting_of}
+use Rattle.rk_kernel.proofs.Directing.{action_done}
+use Rattle.std.specs.Option.{option_to_list}
+use Rattle.rk_model.specs.Outcomes.{answer_of, after_outcome, last_of}
 use Rattle.rk_kernel.proofs.Soundness.{sound_settled, length-kept, length-settled}
 use Rattle.rk_kernel.proofs.Passing.{sound_pass}
 use Rattle.rk_kernel.proofs.Firings.{expire_gentle, due_now-fire}
@@ -44,8 +45,8 @@ both_each : (P : Plain → Type 0) → IsKept P → (k : Plain) (c : ℕ) (timer
 both_each P kept k c [] due within both = (both, refl)
 both_each P kept k c (x ∷ xs) due within both =
     let gentle = expire_gentle k c xs x both.0 within due in
-    let same = count-settled k (expire k c (thread_of x.who)) [] gentle in
-    let more = both_each P kept (fire k c x) c xs (due_now-fire k c xs x within due) (rw same within) (both_settled P kept k (expire k c (thread_of x.who)) [] gentle both) in
+    let same = count-settled k (expire k c x.who) [] gentle in
+    let more = both_each P kept (fire k c x) c xs (due_now-fire k c xs x both.0 within due) (rw same within) (both_settled P kept k (expire k c x.who) [] gentle both) in
     (more.0, more.1 ∙ same)
 
 both_from : (P : Plain → Type 0) → IsKept P → (k : Plain) (c n : ℕ) → c + n ≤ length k.clusters → Both P k → Both P (fire_from k c n)
@@ -66,9 +67,7 @@ AllNext P (Some a) = P a.next
 of_processor : (P : Plain → Type 0) → IsKept P → (k : Plain) (p : ℕ) (o : Option ℕ) → caller k p ≡ o → Both P k → AllNext (Both P) (act_of k p o)
 of_processor P kept k p None is both = tt
 of_processor P kept k p (Some t) is both =
-    let w = caller_within k p t both.0 is in
-    let gentle = action_gentle k t both.0 w.0 (omega (arith, w.1, both.0.places)) (caller_started k p t both.0 is) (caller_waits_not k p t both.0 is) (caller_works_not k p t is) in
-    both_settled P kept k (action k t).next (action k t).last gentle both
+    both_settled P kept k (after_outcome k t (action k t)) (option_to_list (last_of (answer_of (action k t)))) (action_done k t (acting_of k p t both.0 is)).after both
 
 of_clock : (P : Plain → Type 0) → IsKept P → (k : Plain) (o : Option ℕ) → Both P k → AllNext (Both P) (clock_of k o)
 of_clock P kept k (Some p) both = tt

@@ -10,7 +10,6 @@ use Rattle.rk_model.specs.Settling.{moves, moved, key_of, settled_cluster, settl
 use Rattle.rk_model.specs.Running.{all_cpus}
 use Rattle.rk_parts.specs.Settleable.{IsSettleable, AllSettleable}
 use Rattle.rk_kernel.specs.Sound.{stands, own, IsClusterSound, AllSound, IsSound, KeepsLines, AllTimed, IsGentle}
-use Rattle.rk_kernel.proofs.Timing.{is_timed-with_clusters}
 use Rattle.rk_kernel.proofs.Moving.{line_moved, stood_in_line}
 use Rattle.rk_parts.proofs.Assigning.{assigned_has}
 use Rattle.rk_cluster.proofs.Assigning.{length-assigned}
@@ -41,7 +40,7 @@ own-with_clusters : (k : Plain) (clusters : List ClusterState) (c t : ℕ) → t
 unfolding stands is_eligible
 own-with_clusters k clusters c t = refl
 
-all_sound : (k next : Plain) (last : List ℕ) (clusters : List ClusterState) (c : ℕ) (olds news : List ClusterState) → IsGentle k next → AllSound k c olds → KeepsLines olds news → AllTimed next c news →
+all_sound : (k next : Plain) (last : List ℕ) (clusters : List ClusterState) (c : ℕ) (olds news : List ClusterState) → IsGentle k next → AllSound k c olds → KeepsLines olds news → AllTimed next.threads c news →
     AllSound (record next { clusters = clusters }) c (settled_from (moves (standings k) (standings next) last) (key_of (standings next)) next.threads c news)
 all_sound k next last clusters c [] [] gentle sound keeps timed = tt
 all_sound k next last clusters c [] (b ∷ news) gentle sound keeps timed = absurd keeps
@@ -54,7 +53,7 @@ all_sound k next last clusters c (a ∷ olds) (b ∷ news) gentle sound keeps ti
         few_cpus = rw (length-assigned, keeps.1) sound.0.few_cpus;
         line = λ t. line_kept k next last c a b gentle sound.0 keeps.0 t ∙ own-with_clusters next clusters c t;
         manned = λ t h. assigned_has key b.cpus (length b.cpus) line t h;
-        timers = λ t. rw (is_timed-with_clusters next clusters c t) (timed.0 t);
+        timers = timed.0;
       },
       all_sound k next last clusters (c + 1) olds news gentle sound.1 keeps.2 timed.1,
     )
@@ -93,8 +92,6 @@ sound_settled k next last sound gentle =
       horizon = rw gentle.scenario sound.horizon;
       present = rw (gentle.present, gentle.scenario) sound.present;
       bodies = rw gentle.scenario sound.bodies;
-      targets = rw gentle.scenario sound.targets;
-      ops = rw gentle.scenario sound.ops;
       threads = rw (length-settled, same_length, gentle.present, gentle.scenario) gentle.threads;
       clusters = all_sound k next last (settle k next last).clusters 0 k.clusters next.clusters gentle sound.clusters gentle.lines gentle.timers;
       named = gentle.named;

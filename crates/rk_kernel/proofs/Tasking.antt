@@ -1,42 +1,30 @@
--- Tasks that are created, started, re-prioritised and deleted: each changes little.
-use Rattle.std.proofs.Common.{◌≡◌, ◌≢◌, ℕ, ◌≤◌, List, [], ◌∷◌, Bool, true, false, cond, eqb, ◌||◌, nat_lt, Option, None, Some, length, arith, refl, sym, ◌∙◌, ap, subst}
-use Rattle.std.specs.List.{slice_set}
+-- The directives of the task manager are fair.
+use Rattle.std.proofs.Common.{◌≡◌, ◌≢◌, ℕ, ◌&&◌, ◌||◌, nat_lt, List, [], ◌∷◌, Bool, true, false, cond, eqb, Option, None, Some, length, arith, refl, sym, ◌∙◌, ap}
 use Rattle.std.proofs.lemmas.Bool.{false≢true}
-use Rattle.std.proofs.lemmas.Bool.Decides.{nat_tests}
-use Rattle.rk_model.specs.declared.ids.Class.TheVariants.{Task}
 use Rattle.rk_model.specs.declared.scenario.Target.{Target}
 use Rattle.rk_model.specs.declared.scenario.Target.TheVariants.{Var, Own, Given}
 use Rattle.rk_model.specs.declared.state.Life.{Life}
 use Rattle.rk_model.specs.declared.state.Life.TheVariants.{Absent, Dormant, Started, Ended}
 use Rattle.rk_model.specs.declared.state.Thread.{Thread}
-use Rattle.rk_model.specs.declared.state.Armed.{Armed}
 use Rattle.rk_model.specs.declared.state.Wait.{Wait}
+use Rattle.rk_model.specs.declared.state.Wait.TheVariants.{ForTime}
+use Rattle.rk_model.specs.declared.state.Armer.TheVariants.{Thread as OfThread}
 use Rattle.rk_model.specs.declared.entry.Reply.{Reply}
-use Rattle.rk_model.specs.declared.status.Status.TheVariants.{Successful, IncorrectState, InvalidName, InvalidPriority}
-use Rattle.rk_model.specs.Ids.{id_of}
-use Rattle.rk_model.specs.Lists.{times, nth, with_nth}
-use Rattle.rk_model.specs.Names.{given_back}
-use Rattle.rk_model.specs.State.{Plain, no_thread, thread_at, put_thread, cluster_at}
-use Rattle.rk_model.specs.Priorities.{is_started, is_eligible, home_prio}
-use Rattle.rk_model.specs.Timers.{sleepers}
-use Rattle.rk_model.specs.Outcomes.{Outcome, arrived, go_on, put_var, answer, answer_in}
-use Rattle.rk_model.specs.Tasks.{is_live, live_task, task_named, with_task, create_with, task_create, ident_found, is_dormant, with_started, start_found, with_base, set_priority_found, without_task, delete_found}
-use Rattle.rk_parts.specs.Firing.{without_thread}
-use Rattle.rk_parts.specs.Leading.{AllLead}
-use Rattle.rk_kernel.specs.Sound.{IsSound, IsInBounds, IsGentle, is_timed, has_time, is_in_call}
-use Rattle.rk_kernel.proofs.Indices.{nth-with_same, nth-with_other, nth-with_kept, nth-with_holds, length-with_nth, All-with_nth}
-use Rattle.rk_kernel.proofs.Bounds.{bounds_at, bounds_in, blank_bounds, landing_within, arrived_bounds}
-use Rattle.rk_kernel.proofs.Timing.{keeps_same, timed_same, timers_of}
-use Rattle.rk_kernel.proofs.Naming.{first_free, live_named, named_made, named_removed}
-use Rattle.rk_kernel.proofs.Gentle.{gentle_same, gentle_more, gentle_put, gentle_timers, is_timed_here, is_timed_other, go_on_more, go_on_gentle}
-use Rattle.rk_parts.proofs.Tests.{and_false}
-use Rattle.rk_model.proofs.Counts.{same_either_way}
-
--- where a task is started, no thread is behind its 1,001st line
-pub started_line : (k next : Plain) (u t body : ℕ) → next ≡ with_started k u body → AllLead k.scenario.bodies → (thread_at k t).line ≤ 1001 → (thread_at next t).line ≤ 1001
-started_line k next u t body is lead low =
-    subst (λ (n : Plain). (thread_at n t).line ≤ 1001) (sym is)
-    (nth-with_holds (λ (x : Thread). x.line ≤ 1001) no_thread (arrived k.scenario (record (thread_at k u) { life = Started; body = body }) 1) k.threads u t (landing_within k.scenario body 1 lead (omega arith)) low)
+use Rattle.rk_model.specs.Names.{least_named, given_back}
+use Rattle.rk_model.specs.State.{Plain, no_thread, thread_at}
+use Rattle.rk_model.specs.Timers.{cancel}
+use Rattle.rk_model.specs.Priorities.{is_started, is_eligible}
+use Rattle.rk_model.specs.Outcomes.{arrived}
+use Rattle.rk_model.specs.Tasks.{is_live, live_task, task_named, with_task, create_with, task_create, ident_found, task_ident, is_dormant, with_started, task_start, with_suspended, task_suspend, task_resume, task_set_priority, without_task, task_delete, task_exit, task_wake_after}
+use Rattle.rk_kernel.specs.Calls.{IsActing, IsCaller}
+use Rattle.rk_kernel.specs.Sound.{IsSound, IsInBounds, IsGentle, is_waiting, is_in_call}
+use Rattle.rk_kernel.proofs.Indices.{nth-with_other, length-with_nth, All-with_nth}
+use Rattle.rk_kernel.proofs.Bounds.{bounds_at, blank_bounds, arrived_bounds}
+use Rattle.rk_kernel.proofs.Timing.{timed_sound, timed_kept, keeps_same}
+use Rattle.rk_kernel.proofs.Naming.{first_free, named_made, named_removed}
+use Rattle.rk_kernel.proofs.Gentle.{gentle_same, gentle_put, gentle_unarmed, gentle_cancel, cancelled, Stays, stays_put, stays_apart}
+use Rattle.rk_kernel.proofs.Fair.{IsFair, gentle_limited, stays_same, fair_refused, fair_done, fair_waiting, fair_gone, fair_found, fair_if}
+use Rattle.rk_parts.proofs.Tests.{and_back, equal_test}
 
 lives_by : (k : Plain) (v u : ℕ) (b : Bool) → is_live (thread_at k v).life ≡ b → cond b (Some v) None ≡ Some u → is_live (thread_at k u).life ≡ true
 lives_by k v u true e is = let same : v ≡ u = cc in ap (λ w. is_live (thread_at k w).life) (sym same) ∙ e
@@ -56,34 +44,6 @@ named_lives k t (Var var) u live is = lives_or k t u _ _ live is
 named_lives k t Own u live is = let same : t ≡ u = cc in ap (λ w. is_live (thread_at k w).life) (sym same) ∙ live
 named_lives k t (Given bits) u live is = lives_or k t u _ _ live is
 
--- what gentleness asks of the caller: it is started, and in no call
-pub record Calls (k : Plain) (t : ℕ) : Type 0 where
-  pub started : (thread_at k t).life ≡ Started
-  pub line : (thread_at k t).line ≤ 1000
-  pub free : is_in_call (thread_at k t).wait (thread_at k t).finished ≡ false
-
--- a thread that is in no call stores an out number and goes on after a gentle change
-answered : (k m : Plain) (t var out : ℕ) → IsSound k → IsGentle k m → (thread_at m t).line ≤ 1000 → is_in_call (thread_at m t).wait (thread_at m t).finished ≡ false → IsGentle k (go_on (put_var m t var out) t)
-answered k m t var out sound gentle low free =
-    let b = bounds_in k m t sound gentle in
-    let thread : Thread = record (thread_at m t) { vars = slice_set (thread_at m t).vars var out } in
-    let line : (thread_at (put_var m t var out) t).line ≡ (thread_at m t).line = nth-with_kept (λ (x : Thread). x.line) no_thread thread m.threads t t refl in
-    let call : is_in_call (thread_at (put_var m t var out) t).wait (thread_at (put_var m t var out) t).finished ≡ is_in_call (thread_at m t).wait (thread_at m t).finished = nth-with_kept (λ (x : Thread). is_in_call x.wait x.finished) no_thread thread m.threads t t refl in
-    go_on_more k (put_var m t var out) t sound
-    (gentle_more k m t thread gentle refl refl refl (record { home = b.home; line = b.line; working = b.working; calling = b.calling; apart = b.apart; acts = b.acts; idle = b.idle; computed = b.computed }))
-    (omega (arith, line, low)) (call ∙ free)
-
--- the caller stores an out number and goes on
-stored : (k : Plain) (t var out : ℕ) → IsSound k → Calls k t → IsGentle k (go_on (put_var k t var out) t)
-stored k t var out sound calls = answered k k t var out sound (gentle_same k sound) calls.line calls.free
-
--- the caller isn't changed where another thread is put
-apart_line : (k : Plain) (t u : ℕ) (thread : Thread) → t ≢ u → (thread_at k t).line ≤ 1000 → (nth no_thread (with_nth k.threads u thread) t).line ≤ 1000
-apart_line k t u thread other low = subst (λ (x : Thread). x.line ≤ 1000) (sym (nth-with_other no_thread thread k.threads u t other)) low
-
-apart_free : (k : Plain) (t u : ℕ) (thread : Thread) → t ≢ u → is_in_call (thread_at k t).wait (thread_at k t).finished ≡ false → is_in_call (nth no_thread (with_nth k.threads u thread) t).wait (nth no_thread (with_nth k.threads u thread) t).finished ≡ false
-apart_free k t u thread other free = ap (λ (x : Thread). is_in_call x.wait x.finished) (nth-with_other no_thread thread k.threads u t other) ∙ free
-
 -- who lives isn't where no task does
 live_apart : (k : Plain) (t u : ℕ) → is_live (thread_at k t).life ≡ true → is_live (thread_at k u).life ≡ false → t ≢ u
 live_apart k t u live absent same = false≢true (sym absent ∙ ap (λ v. is_live (thread_at k v).life) (sym same) ∙ live)
@@ -94,27 +54,22 @@ absent_idle Dormant h = refl
 absent_idle Started h = absurd (false≢true (sym h))
 absent_idle Ended h = refl
 
-idle_untimed : (wait : Option Wait) (finished : Option Reply) → is_in_call wait finished ≡ false → has_time wait ≡ false
-idle_untimed None finished h = refl
-idle_untimed (Some w) finished h = absurd (false≢true (sym h))
+-- one whose life hasn't begun waits for nothing
+idle_waits_not : (wait : Option Wait) (reply : Option Reply) → is_in_call wait reply ≡ false → is_waiting wait ≡ false
+idle_waits_not None reply h = refl
+idle_waits_not (Some w) reply h = absurd (false≢true (sym h))
 
 never_eligible_at : (k : Plain) (u : ℕ) → is_started (thread_at k u).life ≡ false → is_eligible k u ≡ false
 unfolding is_eligible
 never_eligible_at k u idle = rw idle refl
 
-untimed_at : (k : Plain) (d u : ℕ) → has_time (thread_at k u).wait ≡ false → is_timed k d u ≡ false
-unfolding is_timed
-untimed_at k d u h = rw h (and_false (eqb (thread_at k u).home d))
-
 -- a dormant task is made with the first free index
 with_task_gentle : (k : Plain) (t index : ℕ) (free : List ℕ) (name prio : ℕ) → IsSound k → k.tasks.free ≡ index ∷ free → IsGentle k (with_task k t index free name prio)
-unfolding is_timed
 with_task_gentle k t index free name prio sound is =
     let f = first_free k.tasks k.threads index free sound.named is in
     let made : Thread = record no_thread { life = Dormant; home = (thread_at k t).home; base = prio } in
     let idle = absent_idle (thread_at k index).life f.absent in
-    let old_wait = idle_untimed (thread_at k index).wait (thread_at k index).finished ((bounds_at k index sound).idle idle) in
-    let next = with_task k t index free name prio in
+    let waits_not = idle_waits_not (thread_at k index).wait (thread_at k index).finished ((bounds_at k index sound).idle idle) in
     record {
       scenario = refl;
       present = refl;
@@ -122,45 +77,30 @@ with_task_gentle k t index free name prio sound is =
       homes = λ u eligible. ap (λ (x : Thread). x.home) (nth-with_other no_thread made k.threads index u (λ e. false≢true (sym (never_eligible_at k index idle) ∙ ap (is_eligible k) (sym e) ∙ eligible)));
       threads = All-with_nth (IsInBounds k.scenario (length k.clusters) k.present) made k.threads index (blank_bounds k.scenario (length k.clusters) k.present Dormant (thread_at k t).home prio (bounds_at k t sound).home) sound.threads;
       lines = keeps_same k.clusters;
-      timers = timed_same k next 0 k.clusters (λ d u. by d u (eqb index u) refl) sound.clusters;
+      timers = timed_kept k.threads (with_task k t index free name prio).threads 0 k.clusters
+          (λ d u is. ap (λ (x : Thread). (eqb x.home d) && is_waiting x.wait) (nth-with_other no_thread made k.threads index u (λ e. false≢true (sym waits_not ∙ ap (λ v. is_waiting (thread_at k v).wait) (sym e) ∙ and_back (eqb (thread_at k u).home d) (is_waiting (thread_at k u).wait) is))) ∙ is)
+          (timed_sound k 0 k.clusters sound.clusters);
       named = named_made k.tasks k.threads index free name made sound.named sound.places is refl;
-    } where
-      by : (d u : ℕ) (b : Bool) → eqb index u ≡ b → is_timed (with_task k t index free name prio) d u ≡ is_timed k d u
-      by d u true e =
-          let f = first_free k.tasks k.threads index free sound.named is in
-          let made : Thread = record no_thread { life = Dormant; home = (thread_at k t).home; base = prio } in
-          let same : index ≡ u = grind (arith, nat_tests, e) in
-          let idle = absent_idle (thread_at k index).life f.absent in
-          let old_wait = idle_untimed (thread_at k index).wait (thread_at k index).finished ((bounds_at k index sound).idle idle) in
-          let put : thread_at (with_task k t index free name prio) index ≡ made = nth-with_same no_thread made k.threads index f.low (omega (arith, f.high, sound.places)) in
-          ap (is_timed (with_task k t index free name prio) d) (sym same)
-          ∙ untimed_at (with_task k t index free name prio) d index (ap (λ (x : Thread). has_time x.wait) put)
-          ∙ sym (untimed_at k d index old_wait) ∙ ap (is_timed k d) same
-      by d u false e =
-          let made : Thread = record no_thread { life = Dormant; home = (thread_at k t).home; base = prio } in
-          let other : u ≢ index = λ q. false≢true (sym e ∙ grind (arith, nat_tests, q)) in
-          is_timed_other k index d u made other
+    }
 
-create_with_gentle : (k : Plain) (t : ℕ) (free : List ℕ) (name prio var : ℕ) → IsSound k → Calls k t → k.tasks.free ≡ free → IsGentle k (create_with k t free name prio var).next
-create_with_gentle k t [] name prio var sound calls is = stored k t var 0 sound calls
-create_with_gentle k t (index ∷ free) name prio var sound calls is =
+create_with_fair : (k : Plain) (t : ℕ) (free : List ℕ) (name prio : ℕ) → IsCaller k t → k.tasks.free ≡ free → IsFair k t (create_with k t free name prio)
+create_with_fair k t [] name prio caller is = fair_refused k t _
+create_with_fair k t (index ∷ free) name prio caller is =
+    let sound = caller.acts.sound in
     let f = first_free k.tasks k.threads index free sound.named is in
     let made : Thread = record no_thread { life = Dormant; home = (thread_at k t).home; base = prio } in
-    let other = live_apart k t index (ap is_live calls.started) f.absent in
-    answered k (with_task k t index free name prio) t var (id_of Task index) sound (with_task_gentle k t index free name prio sound is) (apart_line k t index made other calls.line) (apart_free k t index made other calls.free)
+    let other = live_apart k t index (ap is_live caller.acts.started) f.absent in
+    fair_done k t _ _ _ _ refl (stays_apart k k (with_task k t index free name prio) t index made (stays_same k t caller) other refl (with_task_gentle k t index free name prio sound is))
 
--- A caller makes a task.
-pub create_gentle : (k : Plain) (t name prio var : ℕ) → IsSound k → Calls k t → IsGentle k (task_create k t name prio var).next
-create_gentle k t name prio var sound calls = by (eqb name 0) (eqb prio 0 || nat_lt 255 prio) where
-  by : (a b : Bool) → IsGentle k (cond a (answer_in var InvalidName 0 k t) (cond b (answer_in var InvalidPriority 0 k t) (create_with k t k.tasks.free name prio var))).next
-  by true b = stored k t var 0 sound calls
-  by false true = stored k t var 0 sound calls
-  by false false = create_with_gentle k t k.tasks.free name prio var sound calls refl
+pub create_fair : (k : Plain) (t name prio : ℕ) → IsCaller k t → IsFair k t (task_create k t name prio)
+create_fair k t name prio caller = fair_if k t (eqb name 0) _ _ (λ _. fair_refused k t _) (λ _. fair_if k t (eqb prio 0 || nat_lt 255 prio) _ _ (λ _. fair_refused k t _) (λ _. create_with_fair k t k.tasks.free name prio caller refl))
 
--- A caller finds a task, or none.
-pub ident_gentle : (k : Plain) (t : ℕ) (found : Option ℕ) (var : ℕ) → IsSound k → Calls k t → IsGentle k (ident_found k t found var).next
-ident_gentle k t None var sound calls = stored k t var 0 sound calls
-ident_gentle k t (Some u) var sound calls = stored k t var (id_of Task u) sound calls
+ident_found_fair : (k : Plain) (t : ℕ) (found : Option ℕ) → IsCaller k t → IsFair k t (ident_found k found)
+ident_found_fair k t None caller = fair_refused k t _
+ident_found_fair k t (Some u) caller = fair_done k t _ _ _ _ refl (stays_same k t caller)
+
+pub ident_fair : (k : Plain) (t name : ℕ) → IsCaller k t → IsFair k t (task_ident k name)
+ident_fair k t name caller = ident_found_fair k t (least_named name k.tasks.live) caller
 
 dormant_life : (life : Life) → is_dormant life ≡ true → life ≡ Dormant
 dormant_life Absent h = absurd (false≢true h)
@@ -169,79 +109,52 @@ dormant_life Started h = absurd (false≢true h)
 dormant_life Ended h = absurd (false≢true h)
 
 -- a dormant task is started
-with_started_gentle : (k : Plain) (u body : ℕ) → IsSound k → (thread_at k u).life ≡ Dormant → IsGentle k (with_started k u body)
-with_started_gentle k u body sound dormant =
+started_stays : (k : Plain) (t u body : ℕ) → IsCaller k t → (thread_at k u).life ≡ Dormant → Stays k (with_started k u body) t
+started_stays k t u body caller dormant =
+    let sound = caller.acts.sound in
     let b = bounds_at k u sound in
     let thread : Thread = record (thread_at k u) { life = Started; body = body } in
-    gentle_put k u (arrived k.scenario thread 1) sound refl refl (ap is_live (sym dormant))
-    (arrived_bounds k.scenario (length k.clusters) k.present thread 1 sound.bodies sound.targets sound.ops b.home (omega arith) b.computed (b.idle (ap is_started dormant)))
+    let other : t ≢ u = λ q. let same : Started ≡ Dormant = sym caller.acts.started ∙ ap (λ v. (thread_at k v).life) q ∙ dormant in let no : ⊥ = cc in no in
+    stays_apart k k (with_started k u body) t u (arrived k.scenario thread 1) (stays_same k t caller) other refl
+    (gentle_put k k u (arrived k.scenario thread 1) (gentle_same k sound) refl (λ w. w) (ap is_live (sym dormant))
+    (arrived_bounds k.scenario (length k.clusters) k.present thread 1 sound.bodies b.home (omega arith) b.computed (b.idle (ap is_started dormant))))
 
--- A caller starts a task.
-pub start_gentle : (k : Plain) (t : ℕ) (found : Option ℕ) (body : ℕ) → IsSound k → Calls k t → IsGentle k (start_found k t found body).next
-start_gentle k t None body sound calls = go_on_gentle k t sound calls.line calls.free
-start_gentle k t (Some u) body sound calls = by (is_dormant (thread_at k u).life) refl where
-  by : (b : Bool) → is_dormant (thread_at k u).life ≡ b → IsGentle k (cond b (answer Successful (with_started k u body) t) (answer IncorrectState k t)).next
-  by true e =
-      let dormant = dormant_life (thread_at k u).life e in
-      let thread = arrived k.scenario (record (thread_at k u) { life = Started; body = body }) 1 in
-      let other : t ≢ u = λ q. let same : Started ≡ Dormant = sym calls.started ∙ ap (λ v. (thread_at k v).life) q ∙ dormant in let no : ⊥ = cc in no in
-      go_on_more k (with_started k u body) t sound (with_started_gentle k u body sound dormant) (apart_line k t u thread other calls.line) (apart_free k t u thread other calls.free)
-  by false e = go_on_gentle k t sound calls.line calls.free
+pub start_fair : (k : Plain) (t : ℕ) (id : Target) (body : ℕ) → IsCaller k t → IsFair k t (task_start k t id body)
+start_fair k t id body caller = fair_found k t (task_named k t id) _ (λ u _. fair_if k t (is_dormant (thread_at k u).life) _ _ (λ dormant. fair_done k t _ _ _ _ refl (started_stays k t u body caller (dormant_life (thread_at k u).life dormant))) (λ _. fair_refused k t _))
 
--- a task has another base priority
-with_base_gentle : (k : Plain) (u prio : ℕ) → IsSound k → IsGentle k (with_base k u prio)
-with_base_gentle k u prio sound =
-    let b = bounds_at k u sound in
-    gentle_put k u (record (thread_at k u) { base = prio }) sound refl refl refl (record { home = b.home; line = b.line; working = b.working; calling = b.calling; apart = b.apart; acts = b.acts; idle = b.idle; computed = b.computed })
+suspended_stays : (k : Plain) (t u : ℕ) (suspended : Bool) → IsCaller k t → Stays k (with_suspended k u suspended) t
+suspended_stays k t u suspended caller = stays_put k k t u (record (thread_at k u) { suspended = suspended }) (stays_same k t caller) refl refl refl refl refl (bounds_at k u caller.acts.sound)
 
--- A caller sets a task's base priority, or asks for its priority.
-pub set_priority_gentle : (k : Plain) (t : ℕ) (found : Option ℕ) (prio var : ℕ) → IsSound k → Calls k t → IsGentle k (set_priority_found k t found prio var).next
-set_priority_gentle k t None prio var sound calls = stored k t var 0 sound calls
-set_priority_gentle k t (Some u) prio var sound calls = by (nat_lt 255 prio) (eqb prio 0) where
-  by : (a b : Bool) → IsGentle k (cond a (answer_in var InvalidPriority 0 k t) (cond b (answer_in var Successful (home_prio k u) k t) (record (answer_in var Successful (home_prio k u) (with_base k u prio) t) { last = u ∷ [] }))).next
-  by true b = stored k t var 0 sound calls
-  by false true = stored k t var (home_prio k u) sound calls
-  by false false =
-      let thread : Thread = record (thread_at k u) { base = prio } in
-      let line : (thread_at (with_base k u prio) t).line ≡ (thread_at k t).line = nth-with_kept (λ (x : Thread). x.line) no_thread thread k.threads u t refl in
-      let call : is_in_call (thread_at (with_base k u prio) t).wait (thread_at (with_base k u prio) t).finished ≡ is_in_call (thread_at k t).wait (thread_at k t).finished = nth-with_kept (λ (x : Thread). is_in_call x.wait x.finished) no_thread thread k.threads u t refl in
-      answered k (with_base k u prio) t var (home_prio k u) sound (with_base_gentle k u prio sound) (omega (arith, line, calls.line)) (call ∙ calls.free)
+pub suspend_fair : (k : Plain) (t : ℕ) (id : Target) → IsCaller k t → IsFair k t (task_suspend k t id)
+suspend_fair k t id caller = fair_found k t (task_named k t id) _ (λ u _. fair_if k t (thread_at k u).suspended _ _ (λ _. fair_refused k t _) (λ _. fair_done k t _ _ _ _ refl (suspended_stays k t u true caller)))
 
--- the timers of all threads but one
-times-without_thread : (v u : ℕ) (timers : List Armed) → times v (sleepers (without_thread u timers)) ≡ cond (eqb u v) 0 (times v (sleepers timers))
-times-without_thread v u [] = same_either_way (eqb u v) 0
-times-without_thread v u (timer ∷ timers) = grind (arith, nat_tests, times-without_thread v u timers)
+pub resume_fair : (k : Plain) (t : ℕ) (id : Target) → IsCaller k t → IsFair k t (task_resume k t id)
+resume_fair k t id caller = fair_found k t (task_named k t id) _ (λ u _. fair_if k t (thread_at k u).suspended _ _ (λ _. fair_done k t _ _ _ _ refl (suspended_stays k t u false caller)) (λ _. fair_refused k t _))
+
+pub set_priority_fair : (k : Plain) (t : ℕ) (id : Target) (prio : ℕ) → IsCaller k t → IsFair k t (task_set_priority k t id prio)
+set_priority_fair k t id prio caller = fair_found k t (task_named k t id) _ (λ u _. fair_if k t (nat_lt 255 prio) _ _ (λ _. fair_refused k t _) (λ _. fair_if k t (eqb prio 0) _ _ (λ _. fair_done k t _ _ _ _ refl (stays_same k t caller))
+    (λ _. fair_done k t _ _ _ _ refl (stays_put k k t u (record (thread_at k u) { base = prio }) (stays_same k t caller) refl refl refl refl refl (bounds_at k u caller.acts.sound)))))
 
 -- a live task is deleted
 without_task_gentle : (k : Plain) (u : ℕ) → IsSound k → is_live (thread_at k u).life ≡ true → IsGentle k (without_task k u)
 without_task_gentle k u sound live =
-    let b = bounds_at k u sound in
     let h = (thread_at k u).home in
     let gone : Thread = record no_thread { home = (thread_at k u).home } in
-    gentle_timers k u h gone (without_thread u (cluster_at k h).timers) (given_back k.tasks u) sound refl refl
-    (blank_bounds k.scenario (length k.clusters) k.present Absent h 255 b.home)
+    gentle_unarmed k (cancel k h (OfThread u)) u gone (given_back k.tasks u) (gentle_cancel k k h u (gentle_same k sound)) (cancelled k k u (gentle_same k sound)) refl
     (named_removed k.tasks k.threads u gone sound.named sound.places live refl)
-    (λ v. times-without_thread v u (cluster_at k h).timers ∙ by v (eqb u v) refl)
-  where
-    by : (v : ℕ) (b : Bool) → eqb u v ≡ b → cond b 0 (times v (sleepers (cluster_at k (thread_at k u).home).timers)) ≡ cond (is_timed (put_thread k u (record no_thread { home = (thread_at k u).home })) (thread_at k u).home v) 1 0
-    by v true e =
-        let same : u ≡ v = grind (arith, nat_tests, e) in
-        let n = live_named k.tasks k.threads u sound.named live in
-        let gone : Thread = record no_thread { home = (thread_at k u).home } in
-        let now : is_timed (put_thread k u gone) (thread_at k u).home v ≡ false = ap (is_timed (put_thread k u gone) (thread_at k u).home) (sym same) ∙ is_timed_here k u (thread_at k u).home gone n.low (omega (arith, n.high, sound.places)) refl in
-        rw now refl
-    by v false e =
-        let other : v ≢ u = λ q. false≢true (sym e ∙ grind (arith, nat_tests, q)) in
-        let gone : Thread = record no_thread { home = (thread_at k u).home } in
-        timers_of k (thread_at k u).home sound (bounds_at k u sound).home v ∙ ap (λ b. cond b 1 0) (sym (is_timed_other k u (thread_at k u).home v gone other))
+    (blank_bounds k.scenario (length k.clusters) k.present Absent h 255 (bounds_at k u sound).home)
 
--- A caller deletes a task that lives.
-pub delete_gentle : (k : Plain) (t : ℕ) (found : Option ℕ) → ((u : ℕ) → found ≡ Some u → is_live (thread_at k u).life ≡ true) → IsSound k → Calls k t → IsGentle k (delete_found k t found).next
-delete_gentle k t None live sound calls = go_on_gentle k t sound calls.line calls.free
-delete_gentle k t (Some u) live sound calls = by (eqb u t) refl where
-  by : (b : Bool) → eqb u t ≡ b → IsGentle k (cond b (let o : Outcome = record { status = Successful; out = 0; next = without_task k t; last = [] } in o) (answer Successful (without_task k u) t)).next
-  by true e = without_task_gentle k t sound (ap is_live calls.started)
-  by false e =
-      let other : t ≢ u = λ q. false≢true (sym e ∙ grind (arith, nat_tests, q)) in
-      let gone : Thread = record no_thread { home = (thread_at k u).home } in
-      go_on_more k (without_task k u) t sound (without_task_gentle k u sound (live u refl)) (apart_line k t u gone other calls.line) (apart_free k t u gone other calls.free)
+pub delete_fair : (k : Plain) (t : ℕ) (id : Target) → IsCaller k t → IsFair k t (task_delete k t id)
+delete_fair k t id caller = fair_found k t (task_named k t id) _ (λ u is.
+    let gentle = without_task_gentle k u caller.acts.sound (named_lives k t id u (ap is_live caller.acts.started) is) in
+    fair_if k t (eqb u t) _ _ (λ _. fair_gone k t _ _ refl gentle)
+    (λ e. fair_done k t _ _ _ _ refl (stays_apart k k (without_task k u) t u (record no_thread { home = (thread_at k u).home }) (stays_same k t caller) (λ q. false≢true (sym e ∙ equal_test u t (sym q))) refl gentle)))
+
+pub exit_fair : (k : Plain) (t : ℕ) → IsActing k t → (thread_at k t).finished ≡ None → IsFair k t (task_exit k t)
+exit_fair k t acts returns_not =
+    let b = bounds_at k t acts.sound in
+    let free : is_in_call (thread_at k t).wait (thread_at k t).finished ≡ false = rw (acts.waits_not, returns_not) refl in
+    fair_gone k t _ _ refl (gentle_put k k t (record (thread_at k t) { life = Ended }) (gentle_same k acts.sound) refl (λ w. w) (ap is_live (sym acts.started)) (record { home = b.home; line = b.line; working = b.working; calling = b.calling; apart = b.apart; acts = b.acts; idle = λ _. free; computed = b.computed }))
+
+pub wake_after_fair : (k : Plain) (t ticks : ℕ) → IsCaller k t → IsFair k t (task_wake_after k t ticks)
+wake_after_fair k t ticks caller = fair_if k t (eqb ticks 0) _ _ (λ _. fair_done k t _ _ _ _ refl (stays_same k t caller)) (λ _. fair_waiting k t _ (gentle_limited k t ForTime ticks caller))

@@ -1,12 +1,10 @@
 -- What a directive did, against what it comes to.
-use Rattle.std.specs.Prelude.{ℕ, ◌≡◌, List}
-use Rattle.rk_model.specs.declared.entry.Reply.{Reply}
+use Rattle.std.specs.Prelude.{◌≡◌}
+use Rattle.rk_model.specs.declared.entry.Answer.{Answer}
 use Rattle.rk_model.specs.State.{Plain}
-use Rattle.rk_model.specs.Outcomes.{Outcome}
+use Rattle.rk_model.specs.Outcomes.{Outcome, answer_of, changed}
 
--- the reply, the next state before settling and the threads that go last are those of the outcome
-pub record Does (o : Outcome) (reply : Reply) (after : Plain) (moved : List ℕ) : Type 0 where
-  pub status : reply.status ≡ o.status
-  pub out : reply.out ≡ o.out
-  pub next : after ≡ o.next
-  pub last : moved ≡ o.last
+-- the answer is that of the outcome, and the state is changed as it says
+pub record Does (o : Outcome) (answer : Answer) (old new : Plain) : Type 0 where
+  pub told : answer ≡ answer_of o
+  pub state : new ≡ changed old o

@@ -1,9 +1,6 @@
 -- What holds of each state that a legal history leads to: of lines, runners and processors, and of refusals.
 use Rattle.std.specs.Prelude.{ℕ, ◌+◌, ◌<◌, ◌≤◌, ◌≡◌, ◌↔◌, List, [], ◌∷◌, ◌++◌, Bool, true, false, ◌&&◌, ◌||◌, not, Option, Some, None, ◌==◌, length, if◌then◌else◌}
-use Rattle.std.specs.List.{slice_set}
 use Rattle.rk_model.specs.declared.scenario.Scenario.{Scenario}
-use Rattle.rk_model.specs.declared.scenario.Op.{Op}
-use Rattle.rk_model.specs.declared.scenario.Op.TheVariants.{Work, Goto, TaskCreate, TaskIdent, TaskStart, TaskSuspend, TaskResume, TaskSetPriority, TaskDelete, TaskWakeAfter}
 use Rattle.rk_model.specs.declared.entry.Entry.{Entry}
 use Rattle.rk_model.specs.declared.entry.What.{What}
 use Rattle.rk_model.specs.declared.entry.What.TheVariants.{Call, Return, Tick, End}
@@ -11,7 +8,7 @@ use Rattle.rk_model.specs.declared.state.Thread.{Thread}
 use Rattle.rk_model.specs.declared.entry.View.TheVariants.{Runs}
 use Rattle.rk_model.specs.Lists.{has, times}
 use Rattle.rk_model.specs.State.{Plain, thread_at, put_thread, op_at, cluster_at}
-use Rattle.rk_model.specs.Outcomes.{gone_on}
+use Rattle.rk_model.specs.Outcomes.{finished}
 use Rattle.rk_model.specs.Steps.{Act, act}
 use Rattle.rk_model.specs.Priorities.{home_prio}
 use Rattle.rk_model.specs.Lines.{rank, runners}
@@ -87,23 +84,9 @@ is_refused status = not ((status == 0) || (status == 1) || (status == 255))
 abbrev pub is_refusal : Entry → Bool
 is_refusal x = is_call x.what && is_refused x.status
 
--- the variables of a thread after this line of a body refused: its result variable, where it has one, is 0
-abbrev pub refused_vars : Option Op → List ℕ → List ℕ
-refused_vars None vars = vars
-refused_vars (Some (Work n)) vars = vars
-refused_vars (Some (Goto target)) vars = vars
-refused_vars (Some (TaskCreate name prio var)) vars = slice_set vars var 0
-refused_vars (Some (TaskIdent name var)) vars = slice_set vars var 0
-refused_vars (Some (TaskStart id body)) vars = vars
-refused_vars (Some (TaskSuspend id)) vars = vars
-refused_vars (Some (TaskResume id)) vars = vars
-refused_vars (Some (TaskSetPriority id prio var)) vars = slice_set vars var 0
-refused_vars (Some (TaskDelete id)) vars = vars
-refused_vars (Some (TaskWakeAfter n)) vars = vars
-
--- a thread after its line refused: it has gone on, and nothing else of it changed but its result variable
+-- a thread after its line refused: it has gone on, and nothing else of it changed but its result variable, which is 0
 abbrev pub refused_thread : Scenario → Thread → Thread
-refused_thread s thread = gone_on s (record thread { vars = refused_vars (op_at s thread.body thread.line) thread.vars })
+refused_thread s thread = finished s thread 0
 
 -- A refusal changes the caller alone: its thread has gone on, with 0 in its result variable, and nothing else of the state changed.
 abbrev pub RefusalsChangeTheCallerAlone : Type 0

@@ -1,28 +1,29 @@
 ghost use Rattle.std.specs.Prelude.{◌≡◌, ◌<◌, ◌≤◌, ◌+◌, ◌-◌, ◌++◌, ◌∷◌, [], ℕ, None, length, All, true};
 ghost use Rattle.rk_model.specs.State.{thread_at};
 ghost use Rattle.rk_model.specs.Running.{cpu_count, least};
-ghost use Rattle.rk_model.specs.Outcomes.{end_wait, reply_at_timer};
+ghost use Rattle.rk_model.specs.Outcomes.{reply_at_timer};
 ghost use Rattle.rk_model.specs.Priorities.{standings};
-ghost use Rattle.rk_model.specs.Ticks.{charged, ticked, charge_from, pass, fire_cluster, fire_all, tick};
+ghost use Rattle.rk_model.specs.Ticks.{charged, ticked, charge_from, pass, rung, fire_cluster, fire_all, tick};
 ghost use Rattle.rk_parts.specs.Firing.{due_now, FiresFirst};
 ghost use Rattle.rk_kernel.specs.Noted.{IsNoted};
 ghost use Rattle.rk_parts.specs.Pieces.{plain_of};
-ghost use Rattle.rk_parts.specs.Leading.{AllLead};
+ghost use Rattle.rk_model.specs.Limits.{AreRunnable};
 ghost use Rattle.rk_kernel.specs.Sound.{IsSound, IsInBounds};
 ghost use Rattle.rk_kernel.specs.Step.{IsTick};
 
+use crate::answers::end_wait;
 use crate::steps::CoreTick;
-use rk_model::{Items, Reply, Scenario, Status, Thread, ThreadIx, Wait};
+use rk_model::{Armer, Items, Reply, Scenario, Status, Thread, ThreadIx, Wait};
 use rk_parts::core_state::{Core, Scratch};
-use rk_parts::places::{arrive, least_of, put, runs_on_some};
+use rk_parts::places::{arrive, least_of, runs_on_some};
 use rk_parts::settle::settle_core;
 use rk_parts::standing::{note_all, thread_of};
-use rk_parts::timers::{take_due_of, thread_of_timer};
+use rk_parts::timers::take_due_of;
 use std::mem;
 
 /// The thread after a tick through which it ran.
 fn charge_thread(scenario: &Scenario, thread: Thread) -> Thread
-    requires targets { AllLead scenario.now.bodies }
+    requires bodies { AreRunnable scenario.now.bodies }
     requires line { 0 < thread.left → thread.line ≤ 1000 }
     requires computed { thread.computed ≤ 1000000 }
     ensures { result ≡ charged scenario.now thread }
@@ -46,7 +47,7 @@ fn charge_thread(scenario: &Scenario, thread: Thread) -> Thread
 #[tactic(auto, unfolding(rk_model::specs::Ticks::ticked))]
 fn tick_thread(core: &Core, index: ThreadIx, thread: Thread) -> Thread
     requires cpus { cpu_count (plain_of core.now) ≤ 8 }
-    requires targets { AllLead core.now.scenario.bodies }
+    requires bodies { AreRunnable core.now.scenario.bodies }
     requires line { 0 < thread.left → thread.line ≤ 1000 }
     requires computed { thread.computed ≤ 1000000 }
     ensures { result ≡ ticked (plain_of core.now) index thread }
@@ -64,7 +65,7 @@ fn charge_into(out: &mut Items<Thread>, core: &Core)
     requires size { length out.old ≡ 64 }
     requires cpus { cpu_count (plain_of core.now) ≤ 8 }
     requires present { core.now.present ≤ 1000000 }
-    requires targets { AllLead core.now.scenario.bodies }
+    requires bodies { AreRunnable core.now.scenario.bodies }
     requires bounds { All (IsInBounds core.now.scenario (length core.now.clusters) core.now.present) core.now.threads }
     ensures { out.new ≡ charge_from (plain_of core.now) 1 core.now.threads }
 {
@@ -101,17 +102,17 @@ fn timer_reply(wait: Option<Wait>) -> Reply
     }
 }
 
-/// The wait of a thread ends.
-fn finish_wait(core: &mut Core, thread: ThreadIx)
-    ensures { plain_of core.new ≡ end_wait (plain_of core.old) thread (reply_at_timer (thread_at (plain_of core.old) thread).wait) }
+/// A timer fires: the wait of its thread ends.
+fn ring(core: &mut Core, who: Armer)
+    requires { (t : ℕ) → (thread_at (plain_of core.old) t).home < length core.old.clusters }
+    ensures { plain_of core.new ≡ rung (plain_of core.old) who }
 {
-    let waiting = thread_of(core.threads.as_slice(), thread);
-    let finished = Thread {
-        wait: None,
-        finished: Some(timer_reply(waiting.wait)),
-        ..waiting
-    };
-    put(core, thread, finished);
+    match who {
+        Armer::Thread(thread) => {
+            let wait = thread_of(core.threads.as_slice(), thread).wait;
+            end_wait(core, thread, timer_reply(wait));
+        }
+    }
 }
 
 /// The first timer of a cluster that is due now fires, and the state settles; says whether there was one.
@@ -127,7 +128,7 @@ fn fire_first(core: &mut Core, scratch: &mut Scratch, cluster: usize) -> bool
     match take_due_of(core, cluster) {
         None => false,
         Some(timer) => {
-            finish_wait(core, thread_of_timer(timer.who));
+            ring(core, timer.who);
             scratch.last.clear();
             settle_core(core, scratch);
             true

@@ -3,11 +3,10 @@ ghost use Rattle.std.specs.List.{AllByRecursion};
 ghost use Rattle.rk_model.specs.declared.scenario.Init.{Init as InitLine};
 ghost use Rattle.rk_model.specs.Names.{no_names};
 ghost use Rattle.rk_model.specs.Histories.{begun, places, free_cluster, vacant, begun_names, opening};
-ghost use Rattle.rk_model.specs.Limits.{IsWithinLimits};
+ghost use Rattle.rk_model.specs.Limits.{AreRunnable, IsWithinLimits};
 ghost use Rattle.rk_model.specs.Scenarios.{cpus_in};
 ghost use Rattle.rk_kernel.specs.Noted.{IsNoted};
 ghost use Rattle.rk_parts.specs.Pieces.{cluster_of, clusters_of, plain_of};
-ghost use Rattle.rk_parts.specs.Leading.{AllLead};
 ghost use Rattle.rk_kernel.specs.Sound.{IsSound};
 
 use rk_cluster::{Cluster, Moves};
@@ -106,7 +105,7 @@ fn make_vacant(alloc: Global, scenario: &Scenario) -> Result<Core, NoMemory>
 
 /// The thread of an init line.
 fn begin(scenario: &Scenario, init: &Init) -> Thread
-    requires { AllLead scenario.now.bodies }
+    requires { AreRunnable scenario.now.bodies }
     ensures { result ≡ begun scenario.now init.now }
 {
     let thread = Thread {
@@ -123,7 +122,7 @@ fn begin(scenario: &Scenario, init: &Init) -> Thread
 fn start_all(threads: &mut Items<Thread>, scenario: &Scenario)
     requires places { threads.old ≡ places 64 [] }
     requires few { length scenario.now.inits ≤ 64 }
-    requires targets { AllLead scenario.now.bodies }
+    requires bodies { AreRunnable scenario.now.bodies }
     ensures { threads.new ≡ places 64 (map (begun scenario.now) scenario.now.inits) }
 {
     for at in 0..scenario.inits.len() {

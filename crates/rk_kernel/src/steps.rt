@@ -1,12 +1,15 @@
 ghost use Rattle.std.specs.Prelude.{◌≡◌, ◌<◌, ◌≤◌, Some};
 ghost use Rattle.rk_model.specs.Running.{caller};
 ghost use Rattle.rk_model.specs.Settling.{settle};
+ghost use Rattle.std.specs.Option.{option_to_list};
+ghost use Rattle.rk_model.specs.Outcomes.{answer_of, after_outcome, last_of};
 ghost use Rattle.rk_model.specs.Steps.{action, entry_of};
 ghost use Rattle.rk_kernel.specs.Noted.{IsNoted};
 ghost use Rattle.rk_parts.specs.Pieces.{plain_of};
 ghost use Rattle.rk_kernel.specs.Sound.{IsSound};
 ghost use Rattle.rk_kernel.specs.Step.{IsStep};
 
+use crate::answers::finish;
 use crate::directives::perform;
 use rk_model::{Entry, ThreadIx, What, Why};
 use rk_parts::core_state::{Core, Scratch};
@@ -39,14 +42,15 @@ fn act_by(core: &mut Core, scratch: &mut Scratch, cpu: u8, thread: ThreadIx) -> 
     requires caller { caller (plain_of core.old) cpu ≡ Some thread }
     requires sound { IsSound (plain_of core.old) }
     requires noted { IsNoted (plain_of core.old) scratch.old }
-    ensures entry { result ≡ entry_of (plain_of core.old) cpu thread (action (plain_of core.old) thread) }
-    ensures next { plain_of core.new ≡ settle (plain_of core.old) (action (plain_of core.old) thread).next (action (plain_of core.old) thread).last }
+    ensures entry { result ≡ entry_of (plain_of core.old) cpu thread (answer_of (action (plain_of core.old) thread)) }
+    ensures next { plain_of core.new ≡ settle (plain_of core.old) (after_outcome (plain_of core.old) thread (action (plain_of core.old) thread)) (option_to_list (last_of (answer_of (action (plain_of core.old) thread)))) }
     ensures sound { IsSound (plain_of core.new) }
     ensures noted { IsNoted (plain_of core.new) scratch.new }
 {
     let was = thread_of(core.threads.as_slice(), thread);
     scratch.last.clear();
-    let reply = perform(core, &mut scratch.last, thread);
+    let answer = perform(core, thread);
+    let reply = finish(core, &mut scratch.last, thread, answer);
     settle_core(core, scratch);
     Entry {
         seat: cpu,

@@ -2,21 +2,20 @@ ghost use Rattle.std.specs.Prelude.{◌≡◌, ◌<◌, ◌≤◌, ◌+◌, ◌-
 ghost use Rattle.rk_model.specs.declared.state.Life.TheVariants.{Dormant};
 ghost use Rattle.rk_model.specs.State.{no_thread, thread_at, put_thread, cluster_at};
 ghost use Rattle.rk_model.specs.Names.{lives};
-ghost use Rattle.rk_model.specs.Outcomes.{begin_wait, answer};
-ghost use Rattle.rk_model.specs.Tasks.{is_live, task_of, task_named, task_create, task_ident, is_dormant as dormant, with_started, task_start, with_suspended, task_suspend, task_resume, with_base, task_set_priority, without_task, task_delete, task_exit, yield, sleep, task_wake_after};
+ghost use Rattle.rk_model.specs.Tasks.{is_live, task_of, task_named, task_create, task_ident, is_dormant as dormant, with_started, task_start, with_suspended, task_suspend, task_resume, with_base, task_set_priority, without_task, task_delete, task_exit, task_wake_after};
 ghost use Rattle.rk_ids.specs.Objects.{IsSplit};
 ghost use Rattle.rk_kernel.specs.Does.{Does};
 ghost use Rattle.rk_parts.specs.Pieces.{plain_of};
-ghost use Rattle.rk_parts.specs.Leading.{AllLead};
-ghost use Rattle.rk_kernel.specs.Sound.{IsSound};
+ghost use Rattle.rk_model.specs.Limits.{AreRunnable};
+ghost use Rattle.rk_kernel.specs.Calls.{IsActing};
 
-use crate::answers::{answer_caller, answer_with, bare, value_in, wait};
-use rk_model::{Armer, Id, Life, Name, Prio, Reply, Status, Target, Thread, ThreadIx, Wait};
-use rk_parts::core_state::{Core, Threads};
+use crate::answers::{done, value_in, wait_for};
+use rk_model::{Answer, Armer, Id, Life, Name, Prio, Status, Target, Thread, ThreadIx, Wait};
+use rk_parts::core_state::Core;
 use rk_parts::places::{arrive, put};
 use rk_parts::standing::{prio_at_home, thread_of};
 use rk_parts::task_ids::{id_of, index_of};
-use rk_parts::timers::{arm_timer, cancel_timer};
+use rk_parts::timers::cancel_timer;
 
 /// Whether a task has an index in the kernel.
 fn has_index(life: Life) -> bool
@@ -68,55 +67,36 @@ fn put_dormant(core: &mut Core, caller: ThreadIx, index: ThreadIx, base: Prio)
     put(core, index, made);
 }
 
-/// `task.create` (`rtems_task_create`): makes a dormant task of the caller's home, and stores its id.
-/// It answers `INVALID_NAME` where the name is 0, `INVALID_PRIORITY` where the priority isn't from 1
-/// to 255, and `TOO_MANY` where 64 tasks live; 0 is stored then.
-pub(crate) fn create_task(
-    core: &mut Core,
-    last: &mut Threads,
-    caller: ThreadIx,
-    name: Name,
-    prio: u32,
-    var: u8,
-) -> Reply
-    requires none { last.old ≡ [] }
-    requires line { (thread_at (plain_of core.old) caller).line ≤ 1001 }
-    requires targets { AllLead core.old.scenario.bodies }
-    ensures { Does (task_create (plain_of core.old) caller name.bits prio var) result (plain_of core.new) last.new }
+/// `task.create` (`rtems_task_create`): makes a dormant task of the caller's home, and answers its id.
+/// It refuses with `INVALID_NAME` where the name is 0, with `INVALID_PRIORITY` where the priority
+/// isn't from 1 to 255, and with `TOO_MANY` where 64 tasks live.
+pub(crate) fn create_task(core: &mut Core, caller: ThreadIx, name: Name, prio: u32) -> Answer
+    ensures { Does (task_create (plain_of core.old) caller name.bits prio) result (plain_of core.old) (plain_of core.new) }
 {
     if name.bits == 0 {
-        answer_with(core, last, caller, var, Status::InvalidName, 0)
+        Answer::Refused(Status::InvalidName)
     } else if prio == 0 || 255 < prio {
-        answer_with(core, last, caller, var, Status::InvalidPriority, 0)
+        Answer::Refused(Status::InvalidPriority)
     } else {
         match core.tasks.make(name) {
-            None => answer_with(core, last, caller, var, Status::TooMany, 0),
+            None => Answer::Refused(Status::TooMany),
             Some(index) => {
                 put_dormant(core, caller, index, Prio::new(prio as u8));
-                answer_with(core, last, caller, var, Status::Successful, id_of(index))
+                done(id_of(index))
             }
         }
     }
 }
 
-/// `task.ident` (`rtems_task_ident`): stores the id of the task of least index that has the name. It
-/// answers `INVALID_NAME` where there is no such task; 0 is stored then.
-pub(crate) fn ident_task(
-    core: &mut Core,
-    last: &mut Threads,
-    caller: ThreadIx,
-    name: Name,
-    var: u8,
-) -> Reply
-    requires none { last.old ≡ [] }
-    requires line { (thread_at (plain_of core.old) caller).line ≤ 1001 }
-    requires targets { AllLead core.old.scenario.bodies }
-    requires split { IsSplit core.old.tasks }
-    ensures { Does (task_ident (plain_of core.old) caller name.bits var) result (plain_of core.new) last.new }
+/// `task.ident` (`rtems_task_ident`): answers the id of the task of least index that has the name. It
+/// refuses with `INVALID_NAME` where there is no such task.
+pub(crate) fn ident_task(core: &mut Core, name: Name) -> Answer
+    requires { IsSplit core.old.tasks }
+    ensures { Does (task_ident (plain_of core.old) name.bits) result (plain_of core.old) (plain_of core.new) }
 {
     match core.tasks.find(name) {
-        None => answer_with(core, last, caller, var, Status::InvalidName, 0),
-        Some(index) => answer_with(core, last, caller, var, Status::Successful, id_of(index)),
+        None => Answer::Refused(Status::InvalidName),
+        Some(index) => done(id_of(index)),
     }
 }
 
@@ -129,7 +109,7 @@ fn is_dormant(life: Life) -> bool
 
 /// Starts a task at the first line of a body.
 fn start(core: &mut Core, task: ThreadIx, body: u8)
-    requires { AllLead core.old.scenario.bodies }
+    requires { AreRunnable core.old.scenario.bodies }
     ensures { plain_of core.new ≡ with_started (plain_of core.old) task body }
 {
     let thread = thread_of(core.threads.as_slice(), task);
@@ -142,28 +122,20 @@ fn start(core: &mut Core, task: ThreadIx, body: u8)
     put(core, task, arrived);
 }
 
-/// `task.start` (`rtems_task_start`): starts a dormant task at the first line of a body. It answers
-/// `INVALID_ID` where the task is unknown, and `INCORRECT_STATE` where it isn't dormant.
-pub(crate) fn start_task(
-    core: &mut Core,
-    last: &mut Threads,
-    caller: ThreadIx,
-    id: Target,
-    body: u8,
-) -> Reply
-    requires none { last.old ≡ [] }
-    requires line { (thread_at (plain_of core.old) caller).line ≤ 1001 }
-    requires targets { AllLead core.old.scenario.bodies }
-    ensures { Does (task_start (plain_of core.old) caller id body) result (plain_of core.new) last.new }
+/// `task.start` (`rtems_task_start`): starts a dormant task at the first line of a body. It refuses
+/// with `INVALID_ID` where the task is unknown, and with `INCORRECT_STATE` where it isn't dormant.
+pub(crate) fn start_task(core: &mut Core, caller: ThreadIx, id: Target, body: u8) -> Answer
+    requires { AreRunnable core.old.scenario.bodies }
+    ensures { Does (task_start (plain_of core.old) caller id body) result (plain_of core.old) (plain_of core.new) }
 {
     match find_task(core, caller, id) {
-        None => answer_caller(core, last, caller, Status::InvalidId),
+        None => Answer::Refused(Status::InvalidId),
         Some(task) => {
             if is_dormant(thread_of(core.threads.as_slice(), task).life) {
                 start(core, task, body);
-                answer_caller(core, last, caller, Status::Successful)
+                done(0)
             } else {
-                answer_caller(core, last, caller, Status::IncorrectState)
+                Answer::Refused(Status::IncorrectState)
             }
         }
     }
@@ -181,53 +153,37 @@ fn set_suspended(core: &mut Core, task: ThreadIx, suspended: bool)
     put(core, task, changed);
 }
 
-/// `task.suspend` (`rtems_task_suspend`): suspends a task, whose wait and timer go on. It answers
-/// `INVALID_ID` where the task is unknown, and `ALREADY_SUSPENDED` where it is suspended.
-pub(crate) fn suspend_task(
-    core: &mut Core,
-    last: &mut Threads,
-    caller: ThreadIx,
-    id: Target,
-) -> Reply
-    requires none { last.old ≡ [] }
-    requires line { (thread_at (plain_of core.old) caller).line ≤ 1001 }
-    requires targets { AllLead core.old.scenario.bodies }
-    ensures { Does (task_suspend (plain_of core.old) caller id) result (plain_of core.new) last.new }
+/// `task.suspend` (`rtems_task_suspend`): suspends a task, whose wait and timer go on. It refuses with
+/// `INVALID_ID` where the task is unknown, and with `ALREADY_SUSPENDED` where it is suspended.
+pub(crate) fn suspend_task(core: &mut Core, caller: ThreadIx, id: Target) -> Answer
+    ensures { Does (task_suspend (plain_of core.old) caller id) result (plain_of core.old) (plain_of core.new) }
 {
     match find_task(core, caller, id) {
-        None => answer_caller(core, last, caller, Status::InvalidId),
+        None => Answer::Refused(Status::InvalidId),
         Some(task) => {
             if thread_of(core.threads.as_slice(), task).suspended {
-                answer_caller(core, last, caller, Status::AlreadySuspended)
+                Answer::Refused(Status::AlreadySuspended)
             } else {
                 set_suspended(core, task, true);
-                answer_caller(core, last, caller, Status::Successful)
+                done(0)
             }
         }
     }
 }
 
-/// `task.resume` (`rtems_task_resume`): lets a suspended task go on. It answers `INVALID_ID` where
-/// the task is unknown, and `INCORRECT_STATE` where it isn't suspended.
-pub(crate) fn resume_task(
-    core: &mut Core,
-    last: &mut Threads,
-    caller: ThreadIx,
-    id: Target,
-) -> Reply
-    requires none { last.old ≡ [] }
-    requires line { (thread_at (plain_of core.old) caller).line ≤ 1001 }
-    requires targets { AllLead core.old.scenario.bodies }
-    ensures { Does (task_resume (plain_of core.old) caller id) result (plain_of core.new) last.new }
+/// `task.resume` (`rtems_task_resume`): lets a suspended task go on. It refuses with `INVALID_ID` where
+/// the task is unknown, and with `INCORRECT_STATE` where it isn't suspended.
+pub(crate) fn resume_task(core: &mut Core, caller: ThreadIx, id: Target) -> Answer
+    ensures { Does (task_resume (plain_of core.old) caller id) result (plain_of core.old) (plain_of core.new) }
 {
     match find_task(core, caller, id) {
-        None => answer_caller(core, last, caller, Status::InvalidId),
+        None => Answer::Refused(Status::InvalidId),
         Some(task) => {
             if thread_of(core.threads.as_slice(), task).suspended {
                 set_suspended(core, task, false);
-                answer_caller(core, last, caller, Status::Successful)
+                done(0)
             } else {
-                answer_caller(core, last, caller, Status::IncorrectState)
+                Answer::Refused(Status::IncorrectState)
             }
         }
     }
@@ -242,36 +198,24 @@ fn set_base(core: &mut Core, task: ThreadIx, base: Prio)
 }
 
 /// `task.set_priority` (`rtems_task_set_priority`): sets the base priority of a task, which then goes
-/// to the end of its line, and stores the priority that it had in its home; with 0 it only stores
-/// that. It answers `INVALID_ID` where the task is unknown, and `INVALID_PRIORITY` where the priority
-/// is above 255; 0 is stored then.
-pub(crate) fn set_priority(
-    core: &mut Core,
-    last: &mut Threads,
-    caller: ThreadIx,
-    id: Target,
-    prio: u32,
-    var: u8,
-) -> Reply
-    requires none { last.old ≡ [] }
-    requires line { (thread_at (plain_of core.old) caller).line ≤ 1001 }
-    requires targets { AllLead core.old.scenario.bodies }
-    ensures { Does (task_set_priority (plain_of core.old) caller id prio var) result (plain_of core.new) last.new }
+/// to the end of its line, and answers the priority that it had in its home; with 0 it only answers
+/// that. It refuses with `INVALID_ID` where the task is unknown, and with `INVALID_PRIORITY` where the
+/// priority is above 255.
+pub(crate) fn set_priority(core: &mut Core, caller: ThreadIx, id: Target, prio: u32) -> Answer
+    ensures { Does (task_set_priority (plain_of core.old) caller id prio) result (plain_of core.old) (plain_of core.new) }
 {
     match find_task(core, caller, id) {
-        None => answer_with(core, last, caller, var, Status::InvalidId, 0),
+        None => Answer::Refused(Status::InvalidId),
         Some(task) => {
             if 255 < prio {
-                return answer_with(core, last, caller, var, Status::InvalidPriority, 0);
+                return Answer::Refused(Status::InvalidPriority);
             }
             let before = u32::from(prio_at_home(core, task).level());
             if prio == 0 {
-                return answer_with(core, last, caller, var, Status::Successful, before);
+                return done(before);
             }
             set_base(core, task, Prio::new(prio as u8));
-            let reply = answer_with(core, last, caller, var, Status::Successful, before);
-            last.push(task);
-            reply
+            Answer::Done(Status::Successful, before, Some(task))
         }
     }
 }
@@ -284,7 +228,7 @@ fn remove_task(core: &mut Core, task: ThreadIx)
     ensures { plain_of core.new ≡ without_task (plain_of core.old) task }
 {
     let home = thread_of(core.threads.as_slice(), task).home;
-    cancel_timer(core, home, task);
+    cancel_timer(core, home, Armer::Thread(task));
     let gone = Thread {
         home,
         ..Thread::absent()
@@ -294,35 +238,27 @@ fn remove_task(core: &mut Core, task: ThreadIx)
 }
 
 /// `task.delete` (`rtems_task_delete`): ends the life of a task; a caller that deletes itself doesn't
-/// go on. It answers `INVALID_ID` where the task is unknown.
-pub(crate) fn delete_task(
-    core: &mut Core,
-    last: &mut Threads,
-    caller: ThreadIx,
-    id: Target,
-) -> Reply
-    requires none { last.old ≡ [] }
-    requires sound { IsSound (plain_of core.old) }
-    requires live { is_live (thread_at (plain_of core.old) caller).life ≡ true }
-    ensures { Does (task_delete (plain_of core.old) caller id) result (plain_of core.new) last.new }
+/// go on. It refuses with `INVALID_ID` where the task is unknown.
+pub(crate) fn delete_task(core: &mut Core, caller: ThreadIx, id: Target) -> Answer
+    requires { IsActing (plain_of core.old) caller }
+    ensures { Does (task_delete (plain_of core.old) caller id) result (plain_of core.old) (plain_of core.new) }
 {
     match find_task(core, caller, id) {
-        None => answer_caller(core, last, caller, Status::InvalidId),
+        None => Answer::Refused(Status::InvalidId),
         Some(task) => {
             remove_task(core, task);
             if task == caller {
-                bare(Status::Successful)
+                Answer::Gone(Status::Successful)
             } else {
-                answer_caller(core, last, caller, Status::Successful)
+                done(0)
             }
         }
     }
 }
 
 /// `task.exit` (`rtems_task_exit`): ends the task.
-pub(crate) fn exit_task(core: &mut Core, last: &mut Threads, caller: ThreadIx) -> Reply
-    requires { last.old ≡ [] }
-    ensures { Does (task_exit (plain_of core.old) caller) result (plain_of core.new) last.new }
+pub(crate) fn exit_task(core: &mut Core, caller: ThreadIx) -> Answer
+    ensures { Does (task_exit (plain_of core.old) caller) result (plain_of core.old) (plain_of core.new) }
 {
     let thread = thread_of(core.threads.as_slice(), caller);
     let ended = Thread {
@@ -330,47 +266,18 @@ pub(crate) fn exit_task(core: &mut Core, last: &mut Threads, caller: ThreadIx) -
         ..thread
     };
     put(core, caller, ended);
-    bare(Status::TaskExitted)
-}
-
-/// Puts the caller at the end of its line.
-fn yield_task(core: &mut Core, last: &mut Threads, caller: ThreadIx) -> Reply
-    requires none { last.old ≡ [] }
-    requires line { (thread_at (plain_of core.old) caller).line ≤ 1001 }
-    requires targets { AllLead core.old.scenario.bodies }
-    ensures { Does (yield (plain_of core.old) caller) result (plain_of core.new) last.new }
-{
-    let reply = answer_caller(core, last, caller, Status::Successful);
-    last.push(caller);
-    reply
-}
-
-/// Lets the caller wait for a time.
-fn sleep_task(core: &mut Core, last: &mut Threads, caller: ThreadIx, ticks: u32) -> Reply
-    requires none { last.old ≡ [] }
-    requires home { (thread_at (plain_of core.old) caller).home < length core.old.clusters }
-    requires room { length (cluster_at (plain_of core.old) (thread_at (plain_of core.old) caller).home).timers < 64 }
-    ensures { Does (sleep (plain_of core.old) caller ticks) result (plain_of core.new) last.new }
-{
-    let home = thread_of(core.threads.as_slice(), caller).home;
-    let due = u64::from(core.present) + u64::from(ticks);
-    wait(core, caller, Wait::ForTime);
-    arm_timer(core, home, Armer::Thread(caller), due);
-    bare(Status::Waits)
+    Answer::Gone(Status::TaskExitted)
 }
 
 /// `task.wake_after` (`rtems_task_wake_after`): the caller sleeps for so many ticks, and yields with 0.
-pub(crate) fn wake_after(core: &mut Core, last: &mut Threads, caller: ThreadIx, ticks: u32) -> Reply
-    requires none { last.old ≡ [] }
-    requires line { (thread_at (plain_of core.old) caller).line ≤ 1001 }
-    requires targets { AllLead core.old.scenario.bodies }
-    requires home { (thread_at (plain_of core.old) caller).home < length core.old.clusters }
-    requires room { length (cluster_at (plain_of core.old) (thread_at (plain_of core.old) caller).home).timers < 64 }
-    ensures { Does (task_wake_after (plain_of core.old) caller ticks) result (plain_of core.new) last.new }
+pub(crate) fn wake_after(core: &mut Core, caller: ThreadIx, ticks: u32) -> Answer
+    requires { IsActing (plain_of core.old) caller }
+    ensures { Does (task_wake_after (plain_of core.old) caller ticks) result (plain_of core.old) (plain_of core.new) }
 {
     if ticks == 0 {
-        yield_task(core, last, caller)
+        Answer::Done(Status::Successful, 0, Some(caller))
     } else {
-        sleep_task(core, last, caller, ticks)
+        wait_for(core, caller, Wait::ForTime, ticks);
+        Answer::Waiting
     }
 }

@@ -1,44 +1,44 @@
-use Rattle.std.proofs.Common.{rules, ap, ◌≡◌, length, arith, ◌∙◌}
-use Rattle.rk_model.specs.State.{Plain, thread_at}
+use Rattle.std.proofs.Common.{rules, ap, length, ◌∙◌}
+use Rattle.std.specs.Option.{option_to_list}
+use Rattle.rk_model.specs.declared.entry.Answer.{Answer}
+use Rattle.rk_model.specs.Outcomes.{answer_of, after_outcome, last_of}
 use Rattle.rk_model.specs.Steps.{action}
-use Rattle.rk_model.specs.Tasks.{is_live}
 use Rattle.rk_parts.specs.Pieces.{plain_of}
-use Rattle.rk_kernel.specs.Sound.{IsSound, IsGentle}
-use Rattle.rk_model.specs.Running.{caller}
-use Rattle.std.proofs.Common.{Some, ℕ}
-use Rattle.rk_kernel.proofs.Bounds.{bounds_at}
-use Rattle.rk_kernel.proofs.Callers.{caller_started, caller_waits_not, caller_works_not, caller_within}
-use Rattle.rk_kernel.proofs.Sleeping.{room_for_timer, action_gentle}
+use Rattle.rk_kernel.proofs.Callers.{acting_of}
+use Rattle.rk_kernel.proofs.Directing.{action_done, line_after, bodies_after, followed}
 use Rattle.rk_kernel.proofs.Ready.{ready, settled_next, settled_sound}
 use Rattle.rk_kernel.proofs.steps.act_by.Goals as goal
 
-gentle : (k : Plain) (p t : ℕ) → IsSound k → caller k p ≡ Some t → IsGentle k (action k t).next
-gentle k p t sound is = let w = caller_within k p t sound is in action_gentle k t sound w.0 (omega (arith, w.1, sound.places)) (caller_started k p t sound is) (caller_waits_not k p t sound is) (caller_works_not k p t is)
+pub perform-answer-requires : goal.perform-answer-requires
+perform-answer-requires c = acting_of (plain_of c.args.core.now) c.args.cpu c.args.thread c.requires.sound c.requires.caller
 
-pub perform-reply-requires-clause-room : goal.perform-reply-requires-clause-room
-perform-reply-requires-clause-room c =
-    let k = plain_of c.args.core.now in
-    let t = c.args.thread in
-    let w = caller_within k c.args.cpu t c.requires.sound c.requires.caller in
-    room_for_timer k (thread_at k t).home t c.requires.sound (bounds_at k t c.requires.sound).home w.0 (omega (arith, w.1, c.requires.sound.places)) (caller_waits_not k c.args.cpu t c.requires.sound c.requires.caller)
+pub finish-reply-requires-clause-line : goal.finish-reply-requires-clause-line
+finish-reply-requires-clause-line c =
+    line_after (plain_of c.args.core.now) (plain_of c.perform-answer.new.core) c.args.thread (acting_of (plain_of c.args.core.now) c.args.cpu c.args.thread c.requires.sound c.requires.caller) c.perform-answer.ensures.state
 
-pub perform-reply-requires-clause-live : goal.perform-reply-requires-clause-live
-perform-reply-requires-clause-live c = ap is_live (caller_started (plain_of c.args.core.now) c.args.cpu c.args.thread c.requires.sound c.requires.caller)
+pub finish-reply-requires-clause-bodies : goal.finish-reply-requires-clause-bodies
+finish-reply-requires-clause-bodies c =
+    bodies_after (plain_of c.args.core.now) (plain_of c.perform-answer.new.core) c.args.thread (acting_of (plain_of c.args.core.now) c.args.cpu c.args.thread c.requires.sound c.requires.caller) c.perform-answer.ensures.state
 
 pub settle_core-requires : goal.settle_core-requires
 settle_core-requires c =
     let k = plain_of c.args.core.now in
-    let r = ready k (action k c.args.thread).next c.perform-reply.new.core c.args.scratch.now.before c.requires.sound (gentle k c.args.cpu c.args.thread c.requires.sound c.requires.caller) c.perform-reply.ensures.next c.requires.noted.before in
+    let o = action k c.args.thread in
+    let acts = acting_of k c.args.cpu c.args.thread c.requires.sound c.requires.caller in
+    let is = followed k c.args.thread o c.perform-answer.result (plain_of c.perform-answer.new.core) (plain_of c.finish-reply.new.core) c.perform-answer.ensures.told c.perform-answer.ensures.state c.finish-reply.ensures.state in
+    let r = ready k (after_outcome k c.args.thread o) c.finish-reply.new.core c.args.scratch.now.before c.requires.sound (action_done k c.args.thread acts).after is c.requires.noted.before in
     record { places = r.places; before = r.before; now = c.requires.noted.now; clusters = r.clusters; lines = r.lines }
 
 pub returns : goal.returns
 returns c =
     let k = plain_of c.args.core.now in
     let o = action k c.args.thread in
-    let g = gentle k c.args.cpu c.args.thread c.requires.sound c.requires.caller in
+    let acts = acting_of k c.args.cpu c.args.thread c.requires.sound c.requires.caller in
+    let is = followed k c.args.thread o c.perform-answer.result (plain_of c.perform-answer.new.core) (plain_of c.finish-reply.new.core) c.perform-answer.ensures.told c.perform-answer.ensures.state c.finish-reply.ensures.state in
+    let last = c.finish-reply.ensures.last ∙ ap (λ (a : Answer). option_to_list (last_of a)) c.perform-answer.ensures.told in
     record {
       entry = search rules;
-      next = settled_next k o.next c.perform-reply.new.core c.settle_core.new.core c.args.scratch.now.before c.perform-reply.new.last o.last c.perform-reply.ensures.next c.requires.noted.before c.perform-reply.ensures.last c.settle_core.ensures.core;
-      sound = settled_sound k o.next c.perform-reply.new.core c.settle_core.new.core c.args.scratch.now.before c.perform-reply.new.last c.requires.sound g c.perform-reply.ensures.next c.requires.noted.before c.settle_core.ensures.core;
+      next = settled_next k (after_outcome k c.args.thread o) c.finish-reply.new.core c.settle_core.new.core c.args.scratch.now.before c.finish-reply.new.last (option_to_list (last_of (answer_of o))) is c.requires.noted.before last c.settle_core.ensures.core;
+      sound = settled_sound k (after_outcome k c.args.thread o) c.finish-reply.new.core c.settle_core.new.core c.args.scratch.now.before c.finish-reply.new.last c.requires.sound (action_done k c.args.thread acts).after is c.requires.noted.before c.settle_core.ensures.core;
       noted = record { before = c.settle_core.ensures.before; now = c.settle_core.ensures.size; threads = ap length c.settle_core.ensures.threads ∙ c.requires.noted.threads };
     }
