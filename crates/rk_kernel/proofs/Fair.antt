@@ -8,8 +8,9 @@ use Rattle.rk_model.specs.declared.state.Thread.{Thread}
 use Rattle.rk_model.specs.declared.state.Wait.{Wait}
 use Rattle.rk_model.specs.declared.status.Status.{Status}
 use Rattle.rk_model.specs.declared.status.Status.TheVariants.{InvalidId}
+use Rattle.rk_model.specs.declared.scenario.Op.{Op}
 use Rattle.rk_model.specs.Status.{status_code}
-use Rattle.rk_model.specs.State.{Plain, no_thread, thread_at, cluster_at}
+use Rattle.rk_model.specs.State.{Plain, no_thread, thread_at, cluster_at, op_at}
 use Rattle.rk_model.specs.Timers.{times_armed, arm}
 use Rattle.rk_model.specs.Priorities.{is_started}
 use Rattle.rk_model.specs.Outcomes.{Outcome, Refused, Done, Waiting, Gone, on_found, changed, after_outcome, begin_wait, begin_limited}
@@ -21,12 +22,16 @@ use Rattle.rk_kernel.proofs.Indices.{nth-with_same}
 use Rattle.rk_kernel.proofs.Timing.{timers_of}
 use Rattle.rk_kernel.proofs.Gentle.{gentle_same, gentle_put, gentle_arm, Stays, gentle_go_on}
 
+-- the line of a body at which a thread is
+abbrev pub op_of : Plain → ℕ → Option Op
+op_of k t = op_at k.scenario (thread_at k t).body (thread_at k t).line
+
 -- A refusal owes nothing. Where the caller goes on or has no next line, the status is that of no refusal. The change is gentle, and a caller that goes on still can.
 abbrev Owes : Plain → ℕ → Outcome → Type 0
 Owes k t (Refused status) = Unit {0}
-Owes k t (Done status out next last) = (is_refused (status_code status) ≡ false) × Stays k next t
+Owes k t (Done status out next last) = (is_refused (op_of k t) (status_code status) ≡ false) × Stays k next t
 Owes k t (Waiting next) = IsGentle k next
-Owes k t (Gone status next) = (is_refused (status_code status) ≡ false) × IsGentle k next
+Owes k t (Gone status next) = (is_refused (op_of k t) (status_code status) ≡ false) × IsGentle k next
 
 -- An outcome that does as it owes.
 pub record IsFair (k : Plain) (t : ℕ) (o : Outcome) : Type 0 where
@@ -35,13 +40,13 @@ pub record IsFair (k : Plain) (t : ℕ) (o : Outcome) : Type 0 where
 pub fair_refused : (k : Plain) (t : ℕ) (status : Status) → IsFair k t (Refused status)
 fair_refused k t status = record { does = tt }
 
-pub fair_done : (k : Plain) (t : ℕ) (status : Status) (out : ℕ) (next : Plain) (last : Option ℕ) → is_refused (status_code status) ≡ false → Stays k next t → IsFair k t (Done status out next last)
+pub fair_done : (k : Plain) (t : ℕ) (status : Status) (out : ℕ) (next : Plain) (last : Option ℕ) → is_refused (op_of k t) (status_code status) ≡ false → Stays k next t → IsFair k t (Done status out next last)
 fair_done k t status out next last good stays = record { does = (good, stays) }
 
 pub fair_waiting : (k : Plain) (t : ℕ) (next : Plain) → IsGentle k next → IsFair k t (Waiting next)
 fair_waiting k t next gentle = record { does = gentle }
 
-pub fair_gone : (k : Plain) (t : ℕ) (status : Status) (next : Plain) → is_refused (status_code status) ≡ false → IsGentle k next → IsFair k t (Gone status next)
+pub fair_gone : (k : Plain) (t : ℕ) (status : Status) (next : Plain) → is_refused (op_of k t) (status_code status) ≡ false → IsGentle k next → IsFair k t (Gone status next)
 fair_gone k t status next good gentle = record { does = (good, gentle) }
 
 -- a caller that changed nothing can go on

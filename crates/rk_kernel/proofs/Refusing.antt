@@ -7,7 +7,7 @@ use Rattle.rk_model.specs.declared.entry.What.TheVariants.{Tick, End}
 use Rattle.rk_model.specs.declared.state.Thread.{Thread}
 use Rattle.rk_model.specs.declared.settling.Standing.{Standing}
 use Rattle.rk_model.specs.Status.{status_code}
-use Rattle.rk_model.specs.State.{Plain, no_thread, thread_at, put_thread, op_at}
+use Rattle.rk_model.specs.State.{Plain, no_thread, thread_at, put_thread}
 use Rattle.rk_model.specs.Priorities.{is_started, is_no_wait, spins_in, is_eligible, prio, or_least_urgent, home_prio, standing, standings, standings_from}
 use Rattle.rk_model.specs.Running.{caller, least}
 use Rattle.rk_model.specs.Settling.{settle}
@@ -20,7 +20,7 @@ use Rattle.rk_kernel.specs.Laws.{is_call, is_refused, is_refusal, refused_thread
 use Rattle.rk_kernel.proofs.Indices.{nth-with_kept, length-with_nth}
 use Rattle.rk_kernel.proofs.Callers.{acting_of}
 use Rattle.rk_kernel.proofs.Directing.{op_fair}
-use Rattle.rk_kernel.proofs.Fair.{IsFair}
+use Rattle.rk_kernel.proofs.Fair.{op_of, IsFair}
 use Rattle.rk_kernel.proofs.Passing.{spins_alike}
 use Rattle.rk_kernel.specs.Manned.{AreManned}
 use Rattle.rk_kernel.proofs.Manning.{manned_after}
@@ -52,7 +52,7 @@ standings-put_thread k t thread same =
     ∙ ap (standings_from k 1) (length-with_nth thread k.threads t)
 
 -- what has the status of a refusal has the form of one, as far as it is fair
-refuses : (k : Plain) (t : ℕ) (o : Outcome) → IsFair k t o → is_refused (status_code (status_of (answer_of o))) ≡ true → (after_outcome k t o ≡ go_on k t 0) × (last_of (answer_of o) ≡ None)
+refuses : (k : Plain) (t : ℕ) (o : Outcome) → IsFair k t o → is_refused (op_of k t) (status_code (status_of (answer_of o))) ≡ true → (after_outcome k t o ≡ go_on k t 0) × (last_of (answer_of o) ≡ None)
 refuses k t (Refused status) fair h = (refl, refl)
 refuses k t (Done status out next last) fair h = no_refusal (sym fair.does.0 ∙ h)
 refuses k t (Waiting next) fair h = no_refusal h
@@ -67,13 +67,13 @@ settled_alone k t o sound manned next last =
 -- of each act that is a refusal
 abbrev AllRefusals : Plain → Option Act → Type 0
 AllRefusals k None = Unit {0}
-AllRefusals k (Some a) = is_refusal a.entry ≡ true → a.next ≡ put_thread k a.entry.task (refused_thread k.scenario (thread_at k a.entry.task))
+AllRefusals k (Some a) = is_refusal k.scenario a.entry ≡ true → a.next ≡ put_thread k a.entry.task (refused_thread k.scenario (thread_at k a.entry.task))
 
-of_call : (k : Plain) (t : ℕ) (finished : Option Reply) → (thread_at k t).finished ≡ finished → IsActing k t → AreManned k → (is_call (what_of finished) && is_refused (status_code (status_of (answer_of (action_on k t finished))))) ≡ true →
+of_call : (k : Plain) (t : ℕ) (finished : Option Reply) → (thread_at k t).finished ≡ finished → IsActing k t → AreManned k → (is_call (what_of finished) && is_refused (op_of k t) (status_code (status_of (answer_of (action_on k t finished))))) ≡ true →
     settle k (after_outcome k t (action_on k t finished)) (option_to_list (last_of (answer_of (action_on k t finished)))) ≡ put_thread k t (refused_thread k.scenario (thread_at k t))
 of_call k t (Some reply) e acts manned h = no_refusal h
 of_call k t None e acts manned h =
-    let o = op_at k.scenario (thread_at k t).body (thread_at k t).line in
+    let o = op_of k t in
     let r = refuses k t (directive k t o) (op_fair k t acts e o refl) h in
     settled_alone k t (directive k t o) acts.sound manned r.0 r.1
 
@@ -96,7 +96,7 @@ of_seat k q sound manned = by (eqb q 8) where
   by false = of_processor k q (caller k q) refl sound manned
 
 -- What a seat does that is a refusal changes the caller alone.
-pub refusal_alone : (k : Plain) (q : ℕ) (a : Act) → IsSound k → AreManned k → act k q ≡ Some a → is_refusal a.entry ≡ true → a.next ≡ put_thread k a.entry.task (refused_thread k.scenario (thread_at k a.entry.task))
+pub refusal_alone : (k : Plain) (q : ℕ) (a : Act) → IsSound k → AreManned k → act k q ≡ Some a → is_refusal k.scenario a.entry ≡ true → a.next ≡ put_thread k a.entry.task (refused_thread k.scenario (thread_at k a.entry.task))
 refusal_alone k q a sound manned did refusal = subst (AllRefusals k) did (of_seat k q sound manned) refusal
 
 pub refusals_alone : RefusalsChangeTheCallerAlone

@@ -1,6 +1,7 @@
 -- What holds of each state that a legal history leads to: of lines, runners and processors, and of refusals.
 use Rattle.std.specs.Prelude.{ℕ, ◌+◌, ◌<◌, ◌≤◌, ◌≡◌, ◌↔◌, List, [], ◌∷◌, ◌++◌, Bool, true, false, ◌&&◌, ◌||◌, not, Option, Some, None, ◌==◌, length, if◌then◌else◌}
 use Rattle.rk_model.specs.declared.scenario.Scenario.{Scenario}
+use Rattle.rk_model.specs.declared.scenario.Op.{Op}
 use Rattle.rk_model.specs.declared.entry.Entry.{Entry}
 use Rattle.rk_model.specs.declared.entry.What.{What}
 use Rattle.rk_model.specs.declared.entry.What.TheVariants.{Call, Return, Tick, End}
@@ -76,13 +77,17 @@ is_call Return = false
 is_call Tick = false
 is_call End = false
 
--- whether the number of a status is that of a refusal: neither 0 (successful) nor 1 (the task has ended) nor 255 (it waits)
-abbrev pub is_refused : ℕ → Bool
-is_refused status = not ((status == 0) || (status == 1) || (status == 255))
+-- Whether a line of a body may be done with TIMEOUT, which is no refusal then; none that is built so far may.
+abbrev pub may_be_late : Option Op → Bool
+may_be_late o = false
+
+-- whether the number of a status that a line of a body has is that of a refusal: neither 0 (successful) nor 1 (the task has ended) nor 255 (it waits), nor 6 (it is late) where the line may be late
+abbrev pub is_refused : Option Op → ℕ → Bool
+is_refused o status = not ((status == 0) || (status == 1) || (status == 255) || ((status == 6) && may_be_late o))
 
 -- whether an entry is a refusal
-abbrev pub is_refusal : Entry → Bool
-is_refusal x = is_call x.what && is_refused x.status
+abbrev pub is_refusal : Scenario → Entry → Bool
+is_refusal s x = is_call x.what && is_refused (op_at s x.body x.line) x.status
 
 -- a thread after its line refused: it has gone on, and nothing else of it changed but its result variable, which is 0
 abbrev pub refused_thread : Scenario → Thread → Thread
@@ -90,9 +95,9 @@ refused_thread s thread = finished s thread 0
 
 -- A refusal changes the caller alone: its thread has gone on, with 0 in its result variable, and nothing else of the state changed.
 abbrev pub RefusalsChangeTheCallerAlone : Type 0
-RefusalsChangeTheCallerAlone = AfterEach (λ k. (p : ℕ) (a : Act) → act k p ≡ Some a → is_refusal a.entry ≡ true → a.next ≡ put_thread k a.entry.task (refused_thread k.scenario (thread_at k a.entry.task)))
+RefusalsChangeTheCallerAlone = AfterEach (λ k. (p : ℕ) (a : Act) → act k p ≡ Some a → is_refusal k.scenario a.entry ≡ true → a.next ≡ put_thread k a.entry.task (refused_thread k.scenario (thread_at k a.entry.task)))
 
 -- a step of a processor that is a refusal changed the caller alone
 abbrev pub RefusesAlone : CoreStep → Plain → Plain → Type 0
-RefusesAlone (Did x) old new = is_refusal x ≡ true → new ≡ put_thread old x.task (refused_thread old.scenario (thread_at old x.task))
+RefusesAlone (Did x) old new = is_refusal old.scenario x ≡ true → new ≡ put_thread old x.task (refused_thread old.scenario (thread_at old x.task))
 RefusesAlone (Nothing why) old new = Unit {0}
