@@ -1,5 +1,5 @@
 -- Outcomes that are fair: what each form of an outcome owes, so that its state can be settled and its refusals change the caller alone.
-use Rattle.std.proofs.Common.{◌≡◌, ℕ, ◌+◌, ◌≤◌, ◌&&◌, Bool, true, false, cond, eqb, Option, None, Some, length, arith, refl, sym, ◌∙◌, ap}
+use Rattle.std.proofs.Common.{◌≡◌, ℕ, List, [], ◌∷◌, ◌+◌, ◌≤◌, ◌&&◌, Bool, true, false, cond, eqb, Option, None, Some, length, arith, refl, sym, ◌∙◌, ap}
 use Rattle.std.proofs.lemmas.Bool.{false≢true}
 use Rattle.std.proofs.lemmas.Bool.Decides.{nat_tests}
 use Rattle.rk_model.specs.declared.state.Armed.{Armed}
@@ -9,6 +9,9 @@ use Rattle.rk_model.specs.declared.state.Wait.{Wait}
 use Rattle.rk_model.specs.declared.status.Status.{Status}
 use Rattle.rk_model.specs.declared.status.Status.TheVariants.{InvalidId}
 use Rattle.rk_model.specs.declared.scenario.Op.{Op}
+use Rattle.rk_model.specs.declared.ids.Class.{Class}
+use Rattle.rk_model.specs.Names.{Names, least_named}
+use Rattle.rk_model.specs.Objects.{on_free, on_named, ident}
 use Rattle.rk_model.specs.Status.{status_code}
 use Rattle.rk_model.specs.State.{Plain, no_thread, thread_at, cluster_at, op_at}
 use Rattle.rk_model.specs.Timers.{times_armed, arm}
@@ -56,6 +59,19 @@ stays_same k t caller = record { gentle = gentle_same k caller.acts.sound; line 
 pub fair_found : (k : Plain) (t : ℕ) (found : Option ℕ) (act : ℕ → Outcome) → ((u : ℕ) → found ≡ Some u → IsFair k t (act u)) → IsFair k t (on_found found act)
 fair_found k t None act fair = fair_refused k t InvalidId
 fair_found k t (Some u) act fair = fair u refl
+
+-- an object of any class is made with a free index
+pub fair_free : (k : Plain) (t : ℕ) (class : Class) (free : List ℕ) (make : ℕ → List ℕ → Plain) → ((index : ℕ) (rest : List ℕ) → free ≡ index ∷ rest → Stays k (make index rest) t) → IsFair k t (on_free class free make)
+fair_free k t class [] make stays = fair_refused k t _
+fair_free k t class (index ∷ rest) make stays = fair_done k t _ _ _ _ refl (stays index rest refl)
+
+fair_named : (k : Plain) (t : ℕ) (class : Class) (found : Option ℕ) → IsCaller k t → IsFair k t (on_named class found k)
+fair_named k t class None caller = fair_refused k t _
+fair_named k t class (Some index) caller = fair_done k t _ _ _ _ refl (stays_same k t caller)
+
+-- and named
+pub fair_ident : (k : Plain) (t : ℕ) (class : Class) (name : ℕ) (names : Names) → IsCaller k t → IsFair k t (ident class name names k)
+fair_ident k t class name names caller = fair_named k t class (least_named name names.live) caller
 
 pub fair_if : (k : Plain) (t : ℕ) (b : Bool) (x y : Outcome) → (b ≡ true → IsFair k t x) → (b ≡ false → IsFair k t y) → IsFair k t (cond b x y)
 fair_if k t true x y held failed = held refl

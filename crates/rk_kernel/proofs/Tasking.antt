@@ -1,6 +1,7 @@
 -- The directives of the task manager are fair.
 use Rattle.std.proofs.Common.{◌≡◌, ◌≢◌, ℕ, ◌&&◌, ◌||◌, nat_lt, List, [], ◌∷◌, Bool, true, false, cond, eqb, Option, None, Some, length, arith, refl, sym, ◌∙◌, ap}
 use Rattle.std.proofs.lemmas.Bool.{false≢true}
+use Rattle.rk_model.specs.declared.ids.Class.TheVariants.{Task}
 use Rattle.rk_model.specs.declared.scenario.Target.{Target}
 use Rattle.rk_model.specs.declared.scenario.Target.TheVariants.{Var, Own, Given}
 use Rattle.rk_model.specs.declared.state.Life.{Life}
@@ -15,7 +16,7 @@ use Rattle.rk_model.specs.State.{Plain, no_thread, thread_at}
 use Rattle.rk_model.specs.Timers.{cancel}
 use Rattle.rk_model.specs.Priorities.{is_started, is_eligible}
 use Rattle.rk_model.specs.Outcomes.{arrived}
-use Rattle.rk_model.specs.Tasks.{is_live, live_task, task_named, with_task, create_with, task_create, ident_found, task_ident, is_dormant, with_started, task_start, with_suspended, task_suspend, task_resume, task_set_priority, without_task, task_delete, task_exit, task_wake_after}
+use Rattle.rk_model.specs.Tasks.{is_live, live_task, task_named, with_task, task_create, task_ident, is_dormant, with_started, task_start, with_suspended, task_suspend, task_resume, task_set_priority, without_task, task_delete, task_exit, task_wake_after}
 use Rattle.rk_kernel.specs.Calls.{IsActing, IsCaller}
 use Rattle.rk_kernel.specs.Sound.{IsSound, IsInBounds, IsGentle, is_waiting, is_in_call}
 use Rattle.rk_kernel.proofs.Indices.{nth-with_other, length-with_nth, All-with_nth}
@@ -23,7 +24,7 @@ use Rattle.rk_kernel.proofs.Bounds.{bounds_at, blank_bounds, arrived_bounds}
 use Rattle.rk_kernel.proofs.Timing.{timed_sound, timed_kept, keeps_same}
 use Rattle.rk_kernel.proofs.Naming.{first_free, named_made, named_removed}
 use Rattle.rk_kernel.proofs.Gentle.{gentle_same, gentle_put, gentle_unarmed, gentle_cancel, cancelled, Stays, stays_put, stays_apart}
-use Rattle.rk_kernel.proofs.Fair.{IsFair, gentle_limited, stays_same, fair_refused, fair_done, fair_waiting, fair_gone, fair_found, fair_if}
+use Rattle.rk_kernel.proofs.Fair.{IsFair, gentle_limited, stays_same, fair_refused, fair_done, fair_waiting, fair_gone, fair_found, fair_free, fair_ident, fair_if}
 use Rattle.rk_parts.proofs.Tests.{and_back, equal_test}
 
 lives_by : (k : Plain) (v u : ℕ) (b : Bool) → is_live (thread_at k v).life ≡ b → cond b (Some v) None ≡ Some u → is_live (thread_at k u).life ≡ true
@@ -83,24 +84,21 @@ with_task_gentle k t index free name prio sound is =
       named = named_made k.tasks k.threads index free name made sound.named sound.places is refl;
     }
 
-create_with_fair : (k : Plain) (t : ℕ) (free : List ℕ) (name prio : ℕ) → IsCaller k t → k.tasks.free ≡ free → IsFair k t (create_with k t free name prio)
-create_with_fair k t [] name prio caller is = fair_refused k t _
-create_with_fair k t (index ∷ free) name prio caller is =
+with_task_stays : (k : Plain) (t index : ℕ) (free : List ℕ) (name prio : ℕ) → IsCaller k t → k.tasks.free ≡ index ∷ free → Stays k (with_task k t index free name prio) t
+with_task_stays k t index free name prio caller is =
     let sound = caller.acts.sound in
     let f = first_free k.tasks k.threads index free sound.named is in
     let made : Thread = record no_thread { life = Dormant; home = (thread_at k t).home; base = prio } in
     let other = live_apart k t index (ap is_live caller.acts.started) f.absent in
-    fair_done k t _ _ _ _ refl (stays_apart k k (with_task k t index free name prio) t index made (stays_same k t caller) other refl (with_task_gentle k t index free name prio sound is))
+    stays_apart k k (with_task k t index free name prio) t index made (stays_same k t caller) other refl (with_task_gentle k t index free name prio sound is)
 
 pub create_fair : (k : Plain) (t name prio : ℕ) → IsCaller k t → IsFair k t (task_create k t name prio)
-create_fair k t name prio caller = fair_if k t (eqb name 0) _ _ (λ _. fair_refused k t _) (λ _. fair_if k t (eqb prio 0 || nat_lt 255 prio) _ _ (λ _. fair_refused k t _) (λ _. create_with_fair k t k.tasks.free name prio caller refl))
-
-ident_found_fair : (k : Plain) (t : ℕ) (found : Option ℕ) → IsCaller k t → IsFair k t (ident_found k found)
-ident_found_fair k t None caller = fair_refused k t _
-ident_found_fair k t (Some u) caller = fair_done k t _ _ _ _ refl (stays_same k t caller)
+create_fair k t name prio caller =
+    fair_if k t (eqb name 0) _ _ (λ _. fair_refused k t _) (λ _. fair_if k t (eqb prio 0 || nat_lt 255 prio) _ _ (λ _. fair_refused k t _)
+    (λ _. fair_free k t Task k.tasks.free _ (λ index free is. with_task_stays k t index free name prio caller is)))
 
 pub ident_fair : (k : Plain) (t name : ℕ) → IsCaller k t → IsFair k t (task_ident k name)
-ident_fair k t name caller = ident_found_fair k t (least_named name k.tasks.live) caller
+ident_fair k t name caller = fair_ident k t Task name k.tasks caller
 
 dormant_life : (life : Life) → is_dormant life ≡ true → life ≡ Dormant
 dormant_life Absent h = absurd (false≢true h)
