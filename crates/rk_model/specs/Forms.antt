@@ -45,27 +45,22 @@ abbrev pub Makes : List Operand → Type 0
 Makes [] = Op
 Makes (operand ∷ operands) = Value operand → Makes operands
 
--- The form of a line.
-pub record Form : Type 0 where
-  pub word : List ℕ
-  pub operands : List Operand
-  pub made : Makes operands
-
-abbrev form : List ℕ → (operands : List Operand) → Makes operands → Form
-form word operands made = record { word = word; operands = operands; made = made }
+-- The form of a line: its first word, its operands, and the op that their values make.
+pub data Form : Type 0 where
+  Row : List ℕ → (operands : List Operand) → Makes operands → Form
 
 -- the form of the line of each keyword
 abbrev pub form_of : Keyword → Form
-form_of keyword.Work = form (codes "work") (Number 1 1000000 ∷ []) Work
-form_of keyword.Goto = form (codes "goto") (Earlier ∷ []) Goto
-form_of keyword.TaskCreate = form (codes "task.create") (Name0 ∷ Any ∷ Var ∷ []) TaskCreate
-form_of keyword.TaskIdent = form (codes "task.ident") (Name ∷ Var ∷ []) TaskIdent
-form_of keyword.TaskStart = form (codes "task.start") (Id ∷ B ∷ []) TaskStart
-form_of keyword.TaskSuspend = form (codes "task.suspend") (Id ∷ []) TaskSuspend
-form_of keyword.TaskResume = form (codes "task.resume") (Id ∷ []) TaskResume
-form_of keyword.TaskSetPriority = form (codes "task.set_priority") (Id ∷ Any ∷ Var ∷ []) TaskSetPriority
-form_of keyword.TaskDelete = form (codes "task.delete") (Id ∷ []) TaskDelete
-form_of keyword.TaskWakeAfter = form (codes "task.wake_after") (Any ∷ []) TaskWakeAfter
+form_of keyword.Work = Row (codes "work") (Number 1 1000000 ∷ []) Work
+form_of keyword.Goto = Row (codes "goto") (Earlier ∷ []) Goto
+form_of keyword.TaskCreate = Row (codes "task.create") (Name0 ∷ Any ∷ Var ∷ []) TaskCreate
+form_of keyword.TaskIdent = Row (codes "task.ident") (Name ∷ Var ∷ []) TaskIdent
+form_of keyword.TaskStart = Row (codes "task.start") (Id ∷ B ∷ []) TaskStart
+form_of keyword.TaskSuspend = Row (codes "task.suspend") (Id ∷ []) TaskSuspend
+form_of keyword.TaskResume = Row (codes "task.resume") (Id ∷ []) TaskResume
+form_of keyword.TaskSetPriority = Row (codes "task.set_priority") (Id ∷ Any ∷ Var ∷ []) TaskSetPriority
+form_of keyword.TaskDelete = Row (codes "task.delete") (Id ∷ []) TaskDelete
+form_of keyword.TaskWakeAfter = Row (codes "task.wake_after") (Any ∷ []) TaskWakeAfter
 
 -- the keyword of each op
 abbrev pub keyword_of : Op → Keyword
@@ -80,9 +75,13 @@ keyword_of (TaskSetPriority id prio var) = keyword.TaskSetPriority
 keyword_of (TaskDelete id) = keyword.TaskDelete
 keyword_of (TaskWakeAfter n) = keyword.TaskWakeAfter
 
+-- the first word of a form
+abbrev pub word_in : Form → List ℕ
+word_in (Row word operands made) = word
+
 -- how a keyword is spelled
 abbrev pub word_of : Keyword → List ℕ
-word_of k = (form_of k).word
+word_of k = word_in (form_of k)
 
 -- the first of these keywords that is spelled so
 abbrev pub keyword_from : List Keyword → List ℕ → Option Keyword

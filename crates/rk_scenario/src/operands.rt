@@ -180,14 +180,16 @@ fn is_name_byte(byte: u8) -> bool
 
 /// The name of an object that a word spells.
 #[tactic(auto, unfolding(rk_model::specs::Words::name_of, rk_model::specs::Reading::name_operand))]
-pub(crate) fn name_operand(word: &[u8]) -> Result<u32, ScenarioWhy>
+pub(crate) fn name_operand(word: &[u8]) -> Result<Name, ScenarioWhy>
     ensures { result ≡ name_operand word.now }
 {
     match word {
         [a, b, c, d]
             if is_name_byte(*a) && is_name_byte(*b) && is_name_byte(*c) && is_name_byte(*d) => {
             let high = u32::from(*a) * 256 + u32::from(*b);
-            Ok((high * 256 + u32::from(*c)) * 256 + u32::from(*d))
+            Ok(Name {
+                bits: (high * 256 + u32::from(*c)) * 256 + u32::from(*d),
+            })
         }
         _ => Err(ScenarioWhy::NotYetBuilt),
     }
@@ -195,11 +197,11 @@ pub(crate) fn name_operand(word: &[u8]) -> Result<u32, ScenarioWhy>
 
 /// The name of an object that a word spells, where `-` is the name 0.
 #[tactic(auto, unfolding(rk_model::specs::Words::name0_of, rk_model::specs::Reading::name0_operand, rk_model::specs::Reading::name_operand))]
-pub(crate) fn name0_operand(word: &[u8]) -> Result<u32, ScenarioWhy>
+pub(crate) fn name0_operand(word: &[u8]) -> Result<Name, ScenarioWhy>
     ensures { result ≡ name0_operand word.now }
 {
     if word == b"-".as_slice() {
-        Ok(0)
+        Ok(Name { bits: 0 })
     } else {
         name_operand(word)
     }

@@ -1,14 +1,14 @@
-ghost use Rattle.std.specs.Prelude.{◌≡◌, ◌≤◌, ◌∷◌, length, codes};
-ghost use Rattle.rk_model.specs.Reading.{op_line, plain_line, work_line, goto_line};
+ghost use Rattle.std.specs.Prelude.{◌≡◌, ◌≤◌, ◌∷◌, length};
+ghost use Rattle.rk_model.specs.Forms.{form_of};
+ghost use Rattle.rk_model.specs.Reading.{op_line, keyword_line, form_line};
 ghost use Rattle.rk_scenario.specs.Drafts.{known_at};
 
-use crate::operands::{goto_operand, number_operand};
-use crate::tasks::{
-    read_create, read_delete, read_ident, read_resume, read_set_priority, read_start, read_suspend,
-    read_wake_after,
+use crate::operands::{
+    goto_operand, id_operand, name_operand, name0_operand, number_operand, start_operand,
+    var_operand,
 };
 use crate::words::Word;
-use rk_model::{Body, Op, ScenarioWhy};
+use rk_model::{Body, Keyword, Op, ScenarioWhy};
 
 /// What a line of an open body stands for behind the lines that this has so far, by its words.
 /// `front` are the bodies in front of it.
@@ -20,82 +20,53 @@ pub(crate) fn read_op(front: &[Body], body: &Body, words: &[Word]) -> Result<Op,
 {
     match words {
         [] => Err(ScenarioWhy::NotYetBuilt),
-        [first, operands @ ..] => read_op_of(front, body, first.as_slice(), operands),
+        [first, operands @ ..] => match Keyword::of_word(first.as_slice()) {
+            None => Err(ScenarioWhy::NotYetBuilt),
+            Some(keyword) => read_form(front, body, keyword, operands),
+        },
     }
 }
 
-/// What a line of an open body stands for, by its first word and the others.
-#[tactic(auto, unfolding(rk_model::specs::Reading::op_line))]
-fn read_op_of(
+/// What a line of a keyword stands for, by the words behind it.
+#[tactic(auto, unfolding(rk_model::specs::Reading::form_line, rk_model::specs::Reading::operand_of))]
+fn read_form(
     front: &[Body],
     body: &Body,
-    first: &[u8],
+    keyword: Keyword,
     operands: &[Word],
 ) -> Result<Op, ScenarioWhy>
     requires bodies { length front.now ≤ 255 }
     requires lines { length body.now.lines ≤ 1000 }
-    ensures { result ≡ op_line (known_at front.now body.now) (first.now ∷ operands.now) }
+    ensures { result ≡ form_line (known_at front.now body.now) (form_of keyword) operands.now }
 {
-    if first == b"goto".as_slice() {
-        read_goto(body.lines.as_slice(), operands)
-    } else if first == b"task.start".as_slice() {
-        read_start(front, body, operands)
-    } else {
-        read_plain(first, operands)
-    }
-}
-
-/// What a line of a body stands for that names no other line or body, by its first word and the
-/// others.
-#[tactic(auto, unfolding(rk_model::specs::Reading::plain_line))]
-fn read_plain(first: &[u8], operands: &[Word]) -> Result<Op, ScenarioWhy>
-    ensures { result ≡ plain_line first.now operands.now }
-{
-    if first == b"work".as_slice() {
-        read_work(operands)
-    } else if first == b"task.create".as_slice() {
-        read_create(operands)
-    } else if first == b"task.ident".as_slice() {
-        read_ident(operands)
-    } else if first == b"task.suspend".as_slice() {
-        read_suspend(operands)
-    } else if first == b"task.resume".as_slice() {
-        read_resume(operands)
-    } else if first == b"task.set_priority".as_slice() {
-        read_set_priority(operands)
-    } else if first == b"task.delete".as_slice() {
-        read_delete(operands)
-    } else if first == b"task.wake_after".as_slice() {
-        read_wake_after(operands)
-    } else {
-        Err(ScenarioWhy::NotYetBuilt)
-    }
-}
-
-/// `work N`, by the words behind the first.
-#[tactic(auto, unfolding(rk_model::specs::Reading::work_line))]
-fn read_work(operands: &[Word]) -> Result<Op, ScenarioWhy>
-    ensures { result ≡ work_line operands.now }
-{
-    match operands {
-        [ticks] => {
-            let ticks = number_operand(1, 1_000_000, ticks.as_slice())?;
-            Ok(Op::Work(ticks))
+    match (keyword, operands) {
+        (Keyword::Work, [ticks]) => Ok(Op::Work(number_operand(1, 1_000_000, ticks.as_slice())?)),
+        (Keyword::Goto, [line]) => Ok(Op::Goto(goto_operand(
+            body.lines.as_slice(),
+            line.as_slice(),
+        )?)),
+        (Keyword::TaskCreate, [name, prio, var]) => Ok(Op::TaskCreate(
+            name0_operand(name.as_slice())?,
+            number_operand(0, u32::MAX, prio.as_slice())?,
+            var_operand(var.as_slice())?,
+        )),
+        (Keyword::TaskIdent, [name, var]) => {
+            Ok(Op::TaskIdent(name_operand(name.as_slice())?, var_operand(var.as_slice())?))
         }
-        _ => Err(ScenarioWhy::NotYetBuilt),
-    }
-}
-
-/// `goto K` behind these earlier lines of its body, by the words behind the first.
-#[tactic(auto, unfolding(rk_model::specs::Reading::goto_line))]
-fn read_goto(earlier: &[Op], operands: &[Word]) -> Result<Op, ScenarioWhy>
-    requires { length earlier.now ≤ 1000 }
-    ensures { result ≡ goto_line earlier.now operands.now }
-{
-    match operands {
-        [target] => {
-            let target = goto_operand(earlier, target.as_slice())?;
-            Ok(Op::Goto(target))
+        (Keyword::TaskStart, [id, name]) => Ok(Op::TaskStart(
+            id_operand(id.as_slice())?,
+            start_operand(front, body, name.as_slice())?,
+        )),
+        (Keyword::TaskSuspend, [id]) => Ok(Op::TaskSuspend(id_operand(id.as_slice())?)),
+        (Keyword::TaskResume, [id]) => Ok(Op::TaskResume(id_operand(id.as_slice())?)),
+        (Keyword::TaskSetPriority, [id, prio, var]) => Ok(Op::TaskSetPriority(
+            id_operand(id.as_slice())?,
+            number_operand(0, u32::MAX, prio.as_slice())?,
+            var_operand(var.as_slice())?,
+        )),
+        (Keyword::TaskDelete, [id]) => Ok(Op::TaskDelete(id_operand(id.as_slice())?)),
+        (Keyword::TaskWakeAfter, [ticks]) => {
+            Ok(Op::TaskWakeAfter(number_operand(0, u32::MAX, ticks.as_slice())?))
         }
         _ => Err(ScenarioWhy::NotYetBuilt),
     }
