@@ -52,7 +52,6 @@ impl Keyword {
     }
 
     /// The keyword that a word is.
-    #[tactic(auto, unfolding(crate::specs::Forms::keyword_in))]
     pub fn of_word(word: &[u8]) -> Option<Keyword>
         ensures { result ≡ keyword_in word.now }
     {
