@@ -1,11 +1,11 @@
-ghost use Rattle.std.specs.Prelude.{◌≡◌, ◌≤◌, ◌∷◌, length};
+ghost use Rattle.std.specs.Prelude.{◌≡◌, ◌≤◌, ◌∷◌, [], length};
 ghost use Rattle.rk_model.specs.Forms.{form_of};
 ghost use Rattle.rk_model.specs.Reading.{op_line, keyword_line, form_line};
 ghost use Rattle.rk_scenario.specs.Drafts.{known_at};
 
 use crate::operands::{
-    goto_operand, id_operand, name_operand, name0_operand, number_operand, start_operand,
-    var_operand,
+    any_operand, goto_operand, id_operand, name_operand, name0_operand, number_operand,
+    start_operand, var_operand,
 };
 use crate::words::Word;
 use rk_model::{Body, Keyword, Op, ScenarioWhy};
@@ -28,7 +28,7 @@ pub(crate) fn read_op(front: &[Body], body: &Body, words: &[Word]) -> Result<Op,
 }
 
 /// What a line of a keyword stands for, by the words behind it.
-#[tactic(auto, unfolding(rk_model::specs::Reading::form_line, rk_model::specs::Reading::operand_of))]
+#[tactic(auto, unfolding(rk_model::specs::Reading::form_line))]
 fn read_form(
     front: &[Body],
     body: &Body,
@@ -39,35 +39,84 @@ fn read_form(
     requires lines { length body.now.lines ≤ 1000 }
     ensures { result ≡ form_line (known_at front.now body.now) (form_of keyword) operands.now }
 {
-    match (keyword, operands) {
-        (Keyword::Work, [ticks]) => Ok(Op::Work(number_operand(1, 1_000_000, ticks.as_slice())?)),
-        (Keyword::Goto, [line]) => Ok(Op::Goto(goto_operand(
-            body.lines.as_slice(),
-            line.as_slice(),
-        )?)),
-        (Keyword::TaskCreate, [name, prio, var]) => Ok(Op::TaskCreate(
-            name0_operand(name.as_slice())?,
-            number_operand(0, u32::MAX, prio.as_slice())?,
-            var_operand(var.as_slice())?,
+    match operands {
+        [a] => read_one(front, body, keyword, a.as_slice()),
+        [a, b] => read_two(front, body, keyword, a.as_slice(), b.as_slice()),
+        [a, b, c] => read_three(
+            front,
+            body,
+            keyword,
+            a.as_slice(),
+            b.as_slice(),
+            c.as_slice(),
+        ),
+        _ => Err(ScenarioWhy::NotYetBuilt),
+    }
+}
+
+/// What a line of a keyword with one operand stands for.
+#[tactic(auto, unfolding(rk_model::specs::Reading::form_line, rk_model::specs::Reading::operand_of))]
+fn read_one(front: &[Body], body: &Body, keyword: Keyword, a: &[u8]) -> Result<Op, ScenarioWhy>
+    requires bodies { length front.now ≤ 255 }
+    requires lines { length body.now.lines ≤ 1000 }
+    ensures { result ≡ form_line (known_at front.now body.now) (form_of keyword) (a.now ∷ []) }
+{
+    match keyword {
+        Keyword::Work => Ok(Op::Work(number_operand(1, 1_000_000, a)?)),
+        Keyword::Goto => Ok(Op::Goto(goto_operand(body.lines.as_slice(), a)?)),
+        Keyword::TaskSuspend => Ok(Op::TaskSuspend(id_operand(a)?)),
+        Keyword::TaskResume => Ok(Op::TaskResume(id_operand(a)?)),
+        Keyword::TaskDelete => Ok(Op::TaskDelete(id_operand(a)?)),
+        Keyword::TaskWakeAfter => Ok(Op::TaskWakeAfter(any_operand(a)?)),
+        _ => Err(ScenarioWhy::NotYetBuilt),
+    }
+}
+
+/// What a line of a keyword with two operands stands for.
+#[tactic(auto, unfolding(rk_model::specs::Reading::form_line, rk_model::specs::Reading::operand_of))]
+fn read_two(
+    front: &[Body],
+    body: &Body,
+    keyword: Keyword,
+    a: &[u8],
+    b: &[u8],
+) -> Result<Op, ScenarioWhy>
+    requires bodies { length front.now ≤ 255 }
+    requires lines { length body.now.lines ≤ 1000 }
+    ensures { result ≡ form_line (known_at front.now body.now) (form_of keyword) (a.now ∷ b.now ∷ []) }
+{
+    match keyword {
+        Keyword::TaskIdent => Ok(Op::TaskIdent(name_operand(a)?, var_operand(b)?)),
+        Keyword::TaskStart => Ok(Op::TaskStart(id_operand(a)?, start_operand(front, body, b)?)),
+        _ => Err(ScenarioWhy::NotYetBuilt),
+    }
+}
+
+/// What a line of a keyword with three operands stands for.
+#[tactic(auto, unfolding(rk_model::specs::Reading::form_line, rk_model::specs::Reading::operand_of))]
+fn read_three(
+    front: &[Body],
+    body: &Body,
+    keyword: Keyword,
+    a: &[u8],
+    b: &[u8],
+    c: &[u8],
+) -> Result<Op, ScenarioWhy>
+    requires bodies { length front.now ≤ 255 }
+    requires lines { length body.now.lines ≤ 1000 }
+    ensures { result ≡ form_line (known_at front.now body.now) (form_of keyword) (a.now ∷ b.now ∷ c.now ∷ []) }
+{
+    match keyword {
+        Keyword::TaskCreate => Ok(Op::TaskCreate(
+            name0_operand(a)?,
+            any_operand(b)?,
+            var_operand(c)?,
         )),
-        (Keyword::TaskIdent, [name, var]) => {
-            Ok(Op::TaskIdent(name_operand(name.as_slice())?, var_operand(var.as_slice())?))
-        }
-        (Keyword::TaskStart, [id, name]) => Ok(Op::TaskStart(
-            id_operand(id.as_slice())?,
-            start_operand(front, body, name.as_slice())?,
+        Keyword::TaskSetPriority => Ok(Op::TaskSetPriority(
+            id_operand(a)?,
+            any_operand(b)?,
+            var_operand(c)?,
         )),
-        (Keyword::TaskSuspend, [id]) => Ok(Op::TaskSuspend(id_operand(id.as_slice())?)),
-        (Keyword::TaskResume, [id]) => Ok(Op::TaskResume(id_operand(id.as_slice())?)),
-        (Keyword::TaskSetPriority, [id, prio, var]) => Ok(Op::TaskSetPriority(
-            id_operand(id.as_slice())?,
-            number_operand(0, u32::MAX, prio.as_slice())?,
-            var_operand(var.as_slice())?,
-        )),
-        (Keyword::TaskDelete, [id]) => Ok(Op::TaskDelete(id_operand(id.as_slice())?)),
-        (Keyword::TaskWakeAfter, [ticks]) => {
-            Ok(Op::TaskWakeAfter(number_operand(0, u32::MAX, ticks.as_slice())?))
-        }
         _ => Err(ScenarioWhy::NotYetBuilt),
     }
 }
