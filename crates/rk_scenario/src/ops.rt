@@ -19,9 +19,9 @@ pub(crate) fn read_op(front: &[Body], body: &Body, words: &[Word]) -> Result<Op,
     ensures { result ≡ op_line (known_at front.now body.now) words.now }
 {
     match words {
-        [] => Err(ScenarioWhy::NotYetBuilt),
+        [] => Err(ScenarioWhy::Word),
         [first, operands @ ..] => match Keyword::of_word(first.as_slice()) {
-            None => Err(ScenarioWhy::NotYetBuilt),
+            None => Err(ScenarioWhy::Word),
             Some(keyword) => read_form(front, body, keyword, operands),
         },
     }
@@ -50,7 +50,7 @@ fn read_form(
             b.as_slice(),
             c.as_slice(),
         ),
-        _ => Err(ScenarioWhy::NotYetBuilt),
+        _ => Err(ScenarioWhy::Word),
     }
 }
 
@@ -68,7 +68,7 @@ fn read_one(front: &[Body], body: &Body, keyword: Keyword, a: &[u8]) -> Result<O
         Keyword::TaskResume => Ok(Op::TaskResume(id_operand(a)?)),
         Keyword::TaskDelete => Ok(Op::TaskDelete(id_operand(a)?)),
         Keyword::TaskWakeAfter => Ok(Op::TaskWakeAfter(any_operand(a)?)),
-        _ => Err(ScenarioWhy::NotYetBuilt),
+        _ => Err(ScenarioWhy::Word),
     }
 }
 
@@ -88,7 +88,7 @@ fn read_two(
     match keyword {
         Keyword::TaskIdent => Ok(Op::TaskIdent(name_operand(a)?, var_operand(b)?)),
         Keyword::TaskStart => Ok(Op::TaskStart(id_operand(a)?, start_operand(front, body, b)?)),
-        _ => Err(ScenarioWhy::NotYetBuilt),
+        _ => Err(ScenarioWhy::Word),
     }
 }
 
@@ -117,6 +117,6 @@ fn read_three(
             any_operand(b)?,
             var_operand(c)?,
         )),
-        _ => Err(ScenarioWhy::NotYetBuilt),
+        _ => Err(ScenarioWhy::Word),
     }
 }
