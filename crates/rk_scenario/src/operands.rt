@@ -273,7 +273,11 @@ pub(crate) fn body_number(bodies: &[Body], name: &[u8]) -> Option<usize>
 fn no_body(word: &[u8]) -> ScenarioWhy
     ensures { Err result ≡ told_body word.now None }
 {
-    if is_body_name(word) { ScenarioWhy::UnknownName } else { ScenarioWhy::Word }
+    if is_body_name(word) {
+        ScenarioWhy::UnknownName
+    } else {
+        ScenarioWhy::Word
+    }
 }
 
 /// The number of the body whose name a word is.
