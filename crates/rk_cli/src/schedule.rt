@@ -18,7 +18,7 @@ fn push_word(out: &mut Vec<u8>, op: Option<Op>) -> Result<(), NoMemory>
 {
     match op {
         None => push_text(out, "task.exit"),
-        Some(op) => push_text(out, op.keyword().word()),
+        Some(op) => push_text(out, op.word()),
     }
 }
 

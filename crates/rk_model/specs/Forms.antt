@@ -1,9 +1,7 @@
 -- The forms of the lines of a body, a row for each: its first word, its operands, and the op that their values make.
 use Rattle.std.specs.Prelude.{ℕ, List, [], ◌∷◌, Option, Some, None, codes, if◌then◌else◌}
 use Rattle.std.specs.Str.{bytes_eq}
-use Rattle.rk_model.specs.declared.keyword.Keyword.{Keyword}
-use Rattle.rk_model.specs.declared.keyword.Keyword.TheVariants as keyword
-use Rattle.rk_model.specs.declared.keyword.TheConstants.{KEYWORDS}
+use Rattle.rk_model.specs.declared.forms.TheConstants.{FORMS}
 use Rattle.rk_model.specs.declared.numbers.Name.{Name as NameOf}
 use Rattle.rk_model.specs.declared.scenario.Target.{Target}
 use Rattle.rk_model.specs.declared.scenario.Op.{Op}
@@ -49,45 +47,32 @@ Makes (operand ∷ operands) = Value operand → Makes operands
 pub data Form : Type 0 where
   Row : List ℕ → (operands : List Operand) → Makes operands → Form
 
--- the form of the line of each keyword
-abbrev pub form_of : Keyword → Form
-form_of keyword.Work = Row (codes "work") (Number 1 1000000 ∷ []) Work
-form_of keyword.Goto = Row (codes "goto") (Earlier ∷ []) Goto
-form_of keyword.TaskCreate = Row (codes "task.create") (Name0 ∷ Any ∷ Var ∷ []) TaskCreate
-form_of keyword.TaskIdent = Row (codes "task.ident") (Name ∷ Var ∷ []) TaskIdent
-form_of keyword.TaskStart = Row (codes "task.start") (Id ∷ B ∷ []) TaskStart
-form_of keyword.TaskSuspend = Row (codes "task.suspend") (Id ∷ []) TaskSuspend
-form_of keyword.TaskResume = Row (codes "task.resume") (Id ∷ []) TaskResume
-form_of keyword.TaskSetPriority = Row (codes "task.set_priority") (Id ∷ Any ∷ Var ∷ []) TaskSetPriority
-form_of keyword.TaskDelete = Row (codes "task.delete") (Id ∷ []) TaskDelete
-form_of keyword.TaskWakeAfter = Row (codes "task.wake_after") (Any ∷ []) TaskWakeAfter
-
--- the keyword of each op
-abbrev pub keyword_of : Op → Keyword
-keyword_of (Work n) = keyword.Work
-keyword_of (Goto target) = keyword.Goto
-keyword_of (TaskCreate name prio var) = keyword.TaskCreate
-keyword_of (TaskIdent name var) = keyword.TaskIdent
-keyword_of (TaskStart id body) = keyword.TaskStart
-keyword_of (TaskSuspend id) = keyword.TaskSuspend
-keyword_of (TaskResume id) = keyword.TaskResume
-keyword_of (TaskSetPriority id prio var) = keyword.TaskSetPriority
-keyword_of (TaskDelete id) = keyword.TaskDelete
-keyword_of (TaskWakeAfter n) = keyword.TaskWakeAfter
+-- the form of the line of each op
+abbrev pub form_of : Op → Form
+form_of (Work n) = Row (codes "work") (Number 1 1000000 ∷ []) Work
+form_of (Goto target) = Row (codes "goto") (Earlier ∷ []) Goto
+form_of (TaskCreate name prio var) = Row (codes "task.create") (Name0 ∷ Any ∷ Var ∷ []) TaskCreate
+form_of (TaskIdent name var) = Row (codes "task.ident") (Name ∷ Var ∷ []) TaskIdent
+form_of (TaskStart id body) = Row (codes "task.start") (Id ∷ B ∷ []) TaskStart
+form_of (TaskSuspend id) = Row (codes "task.suspend") (Id ∷ []) TaskSuspend
+form_of (TaskResume id) = Row (codes "task.resume") (Id ∷ []) TaskResume
+form_of (TaskSetPriority id prio var) = Row (codes "task.set_priority") (Id ∷ Any ∷ Var ∷ []) TaskSetPriority
+form_of (TaskDelete id) = Row (codes "task.delete") (Id ∷ []) TaskDelete
+form_of (TaskWakeAfter n) = Row (codes "task.wake_after") (Any ∷ []) TaskWakeAfter
 
 -- the first word of a form
 abbrev pub word_in : Form → List ℕ
 word_in (Row word operands made) = word
 
--- how a keyword is spelled
-abbrev pub word_of : Keyword → List ℕ
-word_of k = word_in (form_of k)
+-- the first word of an op's line
+abbrev pub word_of : Op → List ℕ
+word_of op = word_in (form_of op)
 
--- the first of these keywords that is spelled so
-abbrev pub keyword_from : List Keyword → List ℕ → Option Keyword
-keyword_from [] word = None
-keyword_from (k ∷ ks) word = if bytes_eq (word_of k) word then Some k else keyword_from ks word
+-- the first of these ops whose line has the first word
+abbrev pub form_from : List Op → List ℕ → Option Op
+form_from [] word = None
+form_from (op ∷ ops) word = if bytes_eq (word_of op) word then Some op else form_from ops word
 
--- the keyword that a word spells
-unfoldable pub keyword_in : List ℕ → Option Keyword
-keyword_in word = keyword_from KEYWORDS word
+-- an op of the form that has the first word
+unfoldable pub form_in : List ℕ → Option Op
+form_in word = form_from FORMS word

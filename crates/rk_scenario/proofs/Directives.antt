@@ -1,15 +1,15 @@
 -- The words of a line of a body are those of the grammar exactly where the machine takes them.
-use Rattle.std.proofs.Common.{◌≡◌, ℕ, Bool, true, false, cond, inl, inr, List, [], ◌∷◌, Option, Some, None, Result, Ok, refl, subst, sym, ◌∙◌}
+use Rattle.std.proofs.Common.{◌≡◌, ℕ, Bool, true, false, cond, inl, inr, List, [], ◌∷◌, Option, Some, None, Result, Ok, refl, ap, subst, sym, ◌∙◌}
+use Rattle.std.specs.Option.{option_map}
 use Rattle.std.specs.Str.{bytes_eq}
-use Rattle.rk_model.specs.declared.keyword.Keyword.{Keyword}
-use Rattle.rk_model.specs.declared.keyword.Keyword.TheVariants.{Work}
-use Rattle.rk_model.specs.declared.keyword.TheConstants.{KEYWORDS}
+use Rattle.rk_model.specs.declared.forms.TheConstants.{FORMS}
+use Rattle.rk_model.specs.declared.scenario.Op.TheVariants.{Work}
 use Rattle.rk_model.specs.declared.scenario.Op.{Op}
 use Rattle.rk_model.specs.declared.scenario.ScenarioWhy.{ScenarioWhy}
 use Rattle.rk_model.specs.declared.scenario.ScenarioWhy.TheVariants.{Word}
-use Rattle.rk_model.specs.Forms.{Operand, Value, Makes, Form, Row, form_of, keyword_of, word_in, word_of, keyword_from, keyword_in}
+use Rattle.rk_model.specs.Forms.{Operand, Value, Makes, Form, Row, form_of, word_in, word_of, form_from, form_in}
 use Rattle.rk_model.specs.Scenarios.{Known, IsSpelled, Spell, IsOfForm, IsOp}
-use Rattle.rk_model.specs.Reading.{◌>>=◌, operand_of, fits, made_of, form_line, keyword_line, op_line, is_end}
+use Rattle.rk_model.specs.Reading.{◌>>=◌, operand_of, fits, made_of, form_line, line_like, op_line, is_end}
 use Rattle.rk_scenario.proofs.Spelled.{bind_ok, then_ok, either_ok, ok_is, text_is, number_ok, number_is, var_ok, var_is, id_ok, id_is, goto_ok, goto_is, name_ok, name_is, name0_ok, name0_is, start_ok, start_is}
 
 -- ---- operands
@@ -88,59 +88,63 @@ AlwaysOf P (Row first operands made) = Always P operands made
 always_of : (P : Op → Type 0) (told : Known) (form : Form) (words : List (List ℕ)) (op : Op) → AlwaysOf P form → IsOfForm told form words op → P op
 always_of P told (Row first operands made) words op all h = always_holds P told operands made h.0 op all h.2
 
--- each op that a keyword's form makes has the keyword
-own_keyword : (k : Keyword) → AlwaysOf (λ op. keyword_of op ≡ k) (form_of k)
-own_keyword Work = λ n. refl
-own_keyword _ = search
+-- each op that the form of an op makes has that form
+own_form : (op : Op) → AlwaysOf (λ made. form_of made ≡ form_of op) (form_of op)
+own_form (Work n) = λ m. refl
+own_form _ = search
 
--- a keyword is found by its word
-found : (k : Keyword) → keyword_in (word_of k) ≡ Some k
-unfolding keyword_in
-found Work = refl
+-- a form is found by its first word
+found : (op : Op) → option_map form_of (form_in (word_of op)) ≡ Some (form_of op)
+unfolding form_in
+found (Work n) = refl
 found _ = refl
 
--- no keyword is spelled `end`
-not_end : (k : Keyword) (words : List (List ℕ)) → is_end (word_of k ∷ words) ≡ false
+-- no line of a body begins with `end`
+not_end : (op : Op) (words : List (List ℕ)) → is_end (word_of op ∷ words) ≡ false
 unfolding is_end
-not_end Work [] = refl
-not_end Work (word ∷ words) = refl
+not_end (Work n) [] = refl
+not_end (Work n) (word ∷ words) = refl
 not_end _ [] = refl
 not_end _ (word ∷ words) = refl
 
-keyword_is : (ks : List Keyword) (word : List ℕ) (k : Keyword) → keyword_from ks word ≡ Some k → word_of k ≡ word
-keyword_is [] word k e = absurd cc
-keyword_is (first ∷ ks) word k e = go (bytes_eq (word_of first) word) refl e (keyword_is ks word k)
+form_is_of : (ops : List Op) (word : List ℕ) (op : Op) → form_from ops word ≡ Some op → word_of op ≡ word
+form_is_of [] word op e = absurd cc
+form_is_of (first ∷ ops) word op e = go (bytes_eq (word_of first) word) refl e (form_is_of ops word op)
   where
-    go : (b : Bool) → bytes_eq (word_of first) word ≡ b → cond b (Some first) (keyword_from ks word) ≡ Some k → (keyword_from ks word ≡ Some k → word_of k ≡ word) → word_of k ≡ word
-    go true same e later = let is : first ≡ k = cc in subst (λ (x : Keyword). word_of x ≡ word) is (text_is (word_of first) word same)
+    go : (b : Bool) → bytes_eq (word_of first) word ≡ b → cond b (Some first) (form_from ops word) ≡ Some op → (form_from ops word ≡ Some op → word_of op ≡ word) → word_of op ≡ word
+    go true same e later = let is : first ≡ op = cc in subst (λ (x : Op). word_of x ≡ word) is (text_is (word_of first) word same)
     go false same e later = later e
 
 -- ---- lines of a body
 
-keyword_line_ok : (told : Known) (o : Option Keyword) (words : List (List ℕ)) (op : Op) → keyword_line told o words ≡ Ok op → (o ≡ Some (keyword_of op)) × IsOp told (word_of (keyword_of op) ∷ words) op
-keyword_line_ok told None words op e = absurd cc
-keyword_line_ok told (Some k) words op e =
-    let is = form_ok told (form_of k) words op e in
-    let own : keyword_of op ≡ k = always_of (λ op. keyword_of op ≡ k) told (form_of k) (word_of k ∷ words) op (own_keyword k) is in
-    subst (λ (x : Keyword). (Some k ≡ Some x) × IsOfForm told (form_of x) (word_of x ∷ words) op) (sym own) (refl, is)
+line_like_ok : (told : Known) (o : Option Op) (words : List (List ℕ)) (op : Op) → line_like told o words ≡ Ok op → (like : Op) × (o ≡ Some like) × IsOp told (word_of like ∷ words) op
+line_like_ok told None words op e = absurd cc
+line_like_ok told (Some like) words op e =
+    let is = form_ok told (form_of like) words op e in
+    let own : form_of op ≡ form_of like = always_of (λ made. form_of made ≡ form_of like) told (form_of like) (word_of like ∷ words) op (own_form like) is in
+    (like, refl, subst (λ (form : Form). IsOfForm told form (word_of like ∷ words) op) (sym own) is)
 
 -- what the machine takes as a line of a body is one
 pub op_ok : (told : Known) (words : List (List ℕ)) (op : Op) → op_line told words ≡ Ok op → IsOp told words op
-unfolding op_line keyword_in
+unfolding op_line form_in
 op_ok told [] op e = absurd cc
 op_ok told (first ∷ words) op e =
-    let k = keyword_line_ok told (keyword_from KEYWORDS first) words op e in
-    subst (λ (word : List ℕ). IsOp told (word ∷ words) op) (keyword_is KEYWORDS first (keyword_of op) k.0) k.1
+    let k = line_like_ok told (form_from FORMS first) words op e in
+    subst (λ (word : List ℕ). IsOp told (word ∷ words) op) (form_is_of FORMS first k.0 k.1) k.2
+
+like_line : (told : Known) (o : Option Op) (form : Form) (words : List (List ℕ)) → option_map form_of o ≡ Some form → line_like told o words ≡ form_line told form words
+like_line told None form words e = absurd cc
+like_line told (Some op) form words e = let same : form_of op ≡ form = cc in ap (λ (f : Form). form_line told f words) same
 
 -- each line of a body is taken by the machine
 pub op_is : (told : Known) (words : List (List ℕ)) (op : Op) → IsOp told words op → op_line told words ≡ Ok op
 unfolding op_line
 op_is told words op h =
-    let line = form_is told (form_of (keyword_of op)) words op h in
-    rw (line.1, found (keyword_of op)) line.2
+    let line = form_is told (form_of op) words op h in
+    rw line.1 (like_line told (form_in (word_of op)) (form_of op) line.0 (found op) ∙ line.2)
 
 -- no line of a body is the end of it
 pub op_not_end : (told : Known) (words : List (List ℕ)) (op : Op) → IsOp told words op → is_end words ≡ false
 op_not_end told words op h =
-    let line = form_is told (form_of (keyword_of op)) words op h in
-    rw line.1 (not_end (keyword_of op) line.0)
+    let line = form_is told (form_of op) words op h in
+    rw line.1 (not_end op line.0)

@@ -1,6 +1,6 @@
 ghost use Rattle.std.specs.Prelude.{◌≡◌, ◌≤◌, ◌∷◌, [], length};
 ghost use Rattle.rk_model.specs.Forms.{form_of};
-ghost use Rattle.rk_model.specs.Reading.{op_line, keyword_line, form_line};
+ghost use Rattle.rk_model.specs.Reading.{op_line, line_like, form_line};
 ghost use Rattle.rk_scenario.specs.Drafts.{known_at};
 
 use crate::operands::{
@@ -8,7 +8,7 @@ use crate::operands::{
     start_operand, var_operand,
 };
 use crate::words::Word;
-use rk_model::{Body, Keyword, Op, ScenarioWhy};
+use rk_model::{Body, Op, ScenarioWhy};
 
 /// What a line of an open body stands for behind the lines that this has so far, by its words.
 /// `front` are the bodies in front of it.
@@ -20,99 +20,81 @@ pub(crate) fn read_op(front: &[Body], body: &Body, words: &[Word]) -> Result<Op,
 {
     match words {
         [] => Err(ScenarioWhy::Word),
-        [first, operands @ ..] => match Keyword::of_word(first.as_slice()) {
+        [first, operands @ ..] => match Op::of_word(first.as_slice()) {
             None => Err(ScenarioWhy::Word),
-            Some(keyword) => read_form(front, body, keyword, operands),
+            Some(form) => read_form(front, body, form, operands),
         },
     }
 }
 
-/// What a line of a keyword stands for, by the words behind it.
+/// What a line of the form of this one stands for, by the words behind it.
 #[tactic(auto, unfolding(rk_model::specs::Reading::form_line))]
-fn read_form(
-    front: &[Body],
-    body: &Body,
-    keyword: Keyword,
-    operands: &[Word],
-) -> Result<Op, ScenarioWhy>
+fn read_form(front: &[Body], body: &Body, form: Op, operands: &[Word]) -> Result<Op, ScenarioWhy>
     requires bodies { length front.now ≤ 255 }
     requires lines { length body.now.lines ≤ 1000 }
-    ensures { result ≡ form_line (known_at front.now body.now) (form_of keyword) operands.now }
+    ensures { result ≡ form_line (known_at front.now body.now) (form_of form) operands.now }
 {
     match operands {
-        [a] => read_one(front, body, keyword, a.as_slice()),
-        [a, b] => read_two(front, body, keyword, a.as_slice(), b.as_slice()),
-        [a, b, c] => read_three(
-            front,
-            body,
-            keyword,
-            a.as_slice(),
-            b.as_slice(),
-            c.as_slice(),
-        ),
+        [a] => read_one(front, body, form, a.as_slice()),
+        [a, b] => read_two(front, body, form, a.as_slice(), b.as_slice()),
+        [a, b, c] => read_three(front, body, form, a.as_slice(), b.as_slice(), c.as_slice()),
         _ => Err(ScenarioWhy::Word),
     }
 }
 
-/// What a line of a keyword with one operand stands for.
+/// What a line of the form of this one with one operand stands for.
 #[tactic(auto, unfolding(rk_model::specs::Reading::form_line, rk_model::specs::Reading::operand_of))]
-fn read_one(front: &[Body], body: &Body, keyword: Keyword, a: &[u8]) -> Result<Op, ScenarioWhy>
+fn read_one(front: &[Body], body: &Body, form: Op, a: &[u8]) -> Result<Op, ScenarioWhy>
     requires bodies { length front.now ≤ 255 }
     requires lines { length body.now.lines ≤ 1000 }
-    ensures { result ≡ form_line (known_at front.now body.now) (form_of keyword) (a.now ∷ []) }
+    ensures { result ≡ form_line (known_at front.now body.now) (form_of form) (a.now ∷ []) }
 {
-    match keyword {
-        Keyword::Work => Ok(Op::Work(number_operand(1, 1_000_000, a)?)),
-        Keyword::Goto => Ok(Op::Goto(goto_operand(body.lines.as_slice(), a)?)),
-        Keyword::TaskSuspend => Ok(Op::TaskSuspend(id_operand(a)?)),
-        Keyword::TaskResume => Ok(Op::TaskResume(id_operand(a)?)),
-        Keyword::TaskDelete => Ok(Op::TaskDelete(id_operand(a)?)),
-        Keyword::TaskWakeAfter => Ok(Op::TaskWakeAfter(any_operand(a)?)),
+    match form {
+        Op::Work(_) => Ok(Op::Work(number_operand(1, 1_000_000, a)?)),
+        Op::Goto(_) => Ok(Op::Goto(goto_operand(body.lines.as_slice(), a)?)),
+        Op::TaskSuspend(_) => Ok(Op::TaskSuspend(id_operand(a)?)),
+        Op::TaskResume(_) => Ok(Op::TaskResume(id_operand(a)?)),
+        Op::TaskDelete(_) => Ok(Op::TaskDelete(id_operand(a)?)),
+        Op::TaskWakeAfter(_) => Ok(Op::TaskWakeAfter(any_operand(a)?)),
         _ => Err(ScenarioWhy::Word),
     }
 }
 
-/// What a line of a keyword with two operands stands for.
+/// What a line of the form of this one with two operands stands for.
 #[tactic(auto, unfolding(rk_model::specs::Reading::form_line, rk_model::specs::Reading::operand_of))]
-fn read_two(
-    front: &[Body],
-    body: &Body,
-    keyword: Keyword,
-    a: &[u8],
-    b: &[u8],
-) -> Result<Op, ScenarioWhy>
+fn read_two(front: &[Body], body: &Body, form: Op, a: &[u8], b: &[u8]) -> Result<Op, ScenarioWhy>
     requires bodies { length front.now ≤ 255 }
     requires lines { length body.now.lines ≤ 1000 }
-    ensures { result ≡ form_line (known_at front.now body.now) (form_of keyword) (a.now ∷ b.now ∷ []) }
+    ensures { result ≡ form_line (known_at front.now body.now) (form_of form) (a.now ∷ b.now ∷ []) }
 {
-    match keyword {
-        Keyword::TaskIdent => Ok(Op::TaskIdent(name_operand(a)?, var_operand(b)?)),
-        Keyword::TaskStart => Ok(Op::TaskStart(id_operand(a)?, start_operand(front, body, b)?)),
+    match form {
+        Op::TaskIdent(_, _) => Ok(Op::TaskIdent(name_operand(a)?, var_operand(b)?)),
+        Op::TaskStart(_, _) => Ok(Op::TaskStart(id_operand(a)?, start_operand(front, body, b)?)),
         _ => Err(ScenarioWhy::Word),
     }
 }
 
-/// What a line of a keyword with three operands stands for.
+/// What a line of the form of this one with three operands stands for.
 #[tactic(auto, unfolding(rk_model::specs::Reading::form_line, rk_model::specs::Reading::operand_of))]
 fn read_three(
     front: &[Body],
     body: &Body,
-    keyword: Keyword,
+    form: Op,
     a: &[u8],
     b: &[u8],
     c: &[u8],
 ) -> Result<Op, ScenarioWhy>
     requires bodies { length front.now ≤ 255 }
     requires lines { length body.now.lines ≤ 1000 }
-    ensures { result ≡ form_line (known_at front.now body.now) (form_of keyword) (a.now ∷ b.now ∷ c.now ∷ []) }
+    ensures { result ≡ form_line (known_at front.now body.now) (form_of form) (a.now ∷ b.now ∷ c.now ∷ []) }
 {
-    match keyword {
-        Keyword::TaskCreate => Ok(Op::TaskCreate(
+    match form {
+        Op::TaskCreate(_, _, _) => Ok(Op::TaskCreate(
             name0_operand(a)?,
             any_operand(b)?,
             var_operand(c)?,
         )),
-        Keyword::TaskSetPriority => Ok(Op::TaskSetPriority(
+        Op::TaskSetPriority(_, _, _) => Ok(Op::TaskSetPriority(
             id_operand(a)?,
             any_operand(b)?,
             var_operand(c)?,
