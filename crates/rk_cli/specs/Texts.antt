@@ -3,7 +3,7 @@ use Rattle.std.specs.Prelude.{ℕ, List, [], ◌∷◌, ◌++◌, codes}
 use Rattle.std.specs.Fmt.{decimal}
 use Rattle.rk_model.specs.declared.scenario.Scenario.{Scenario}
 use Rattle.rk_model.specs.declared.scenario.ScenarioWhy.{ScenarioWhy}
-use Rattle.rk_model.specs.declared.scenario.ScenarioWhy.TheVariants.{Header, Word, Number, Range, UnknownName, Repeated, TooMany, MissingEnd, NotAscii, TooLarge}
+use Rattle.rk_model.specs.declared.scenario.ScenarioWhy.TheVariants.{Header, TooLarge, NotYetBuilt}
 use Rattle.rk_model.specs.declared.entry.Entry.{Entry}
 use Rattle.rk_model.specs.Reading.{Fault}
 use Rattle.rk_model.specs.Histories.{lowest}
@@ -17,14 +17,7 @@ usage_text = codes "usage: rtems_smp run | plan | check | big N" ++ 10 ∷ []
 unfoldable pub why_text : ScenarioWhy → List ℕ
 why_text Header = codes "Header"
 why_text TooLarge = codes "TooLarge"
-why_text Word = codes "Word"
-why_text Number = codes "Number"
-why_text Range = codes "Range"
-why_text UnknownName = codes "UnknownName"
-why_text Repeated = codes "Repeated"
-why_text TooMany = codes "TooMany"
-why_text MissingEnd = codes "MissingEnd"
-why_text NotAscii = codes "NotAscii"
+why_text NotYetBuilt = codes "NotYetBuilt"
 
 -- the refusal of a text for its first fault: the line, and what is wrong with it
 unfoldable pub refusal_text : Fault → List ℕ

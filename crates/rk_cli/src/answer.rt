@@ -45,14 +45,7 @@ fn push_why(out: &mut Vec<u8>, why: ScenarioWhy) -> Result<(), NoMemory>
     match why {
         ScenarioWhy::Header => push_text(out, "Header"),
         ScenarioWhy::TooLarge => push_text(out, "TooLarge"),
-        ScenarioWhy::Word => push_text(out, "Word"),
-        ScenarioWhy::Number => push_text(out, "Number"),
-        ScenarioWhy::Range => push_text(out, "Range"),
-        ScenarioWhy::UnknownName => push_text(out, "UnknownName"),
-        ScenarioWhy::Repeated => push_text(out, "Repeated"),
-        ScenarioWhy::TooMany => push_text(out, "TooMany"),
-        ScenarioWhy::MissingEnd => push_text(out, "MissingEnd"),
-        ScenarioWhy::NotAscii => push_text(out, "NotAscii"),
+        ScenarioWhy::NotYetBuilt => push_text(out, "NotYetBuilt"),
     }
 }
 

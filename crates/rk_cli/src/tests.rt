@@ -87,13 +87,13 @@ fn writes_whole_texts(rt: HostRuntime) -> Result<(), Fail> {
         (
             Some("plan"),
             "rtems 1\ncluster 9\nticks 0\n",
-            "scenario line 2: Range\n",
+            "scenario line 2: NotYetBuilt\n",
             2,
         ),
         (
             Some("plan"),
             "rtems 1\ncluster x\n",
-            "scenario line 2: Number\n",
+            "scenario line 2: NotYetBuilt\n",
             2,
         ),
         (Some("frob"), SHORT, USAGE, 1),

@@ -6,7 +6,7 @@ use Rattle.rk_model.specs.declared.forms.TheConstants.{FORMS}
 use Rattle.rk_model.specs.declared.scenario.Op.TheVariants.{Work}
 use Rattle.rk_model.specs.declared.scenario.Op.{Op}
 use Rattle.rk_model.specs.declared.scenario.ScenarioWhy.{ScenarioWhy}
-use Rattle.rk_model.specs.declared.scenario.ScenarioWhy.TheVariants.{Word}
+use Rattle.rk_model.specs.declared.scenario.ScenarioWhy.TheVariants.{NotYetBuilt}
 use Rattle.rk_model.specs.Forms.{Operand, Value, Makes, Form, Row, form_of, word_in, word_of, form_from, form_in}
 use Rattle.rk_model.specs.Scenarios.{Known, IsSpelled, Spell, IsOfForm, IsOp}
 use Rattle.rk_model.specs.Reading.{◌>>=◌, operand_of, fits, made_of, form_line, line_like, op_line, is_end}
@@ -61,7 +61,7 @@ spell_fits told (o ∷ operands) made (word ∷ words) op h = spell_fits told op
 form_ok : (told : Known) (form : Form) (words : List (List ℕ)) (op : Op) → form_line told form words ≡ Ok op → IsOfForm told form (word_in form ∷ words) op
 unfolding form_line
 form_ok told (Row first operands made) words op e =
-    let t = then_ok (fits operands words) (made_of told operands made words) Word op e in
+    let t = then_ok (fits operands words) (made_of told operands made words) NotYetBuilt op e in
     (words, refl, made_ok told operands made words op t.1)
 
 form_is : (told : Known) (form : Form) (words : List (List ℕ)) (op : Op) → IsOfForm told form words op → (rest : List (List ℕ)) × (words ≡ word_in form ∷ rest) × (form_line told form rest ≡ Ok op)

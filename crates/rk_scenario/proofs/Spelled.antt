@@ -12,10 +12,10 @@ use Rattle.rk_model.specs.declared.scenario.Body.{Body}
 use Rattle.rk_model.specs.declared.scenario.Init.{Init}
 use Rattle.rk_model.specs.declared.scenario.Scenario.{Scenario}
 use Rattle.rk_model.specs.declared.scenario.ScenarioWhy.{ScenarioWhy}
-use Rattle.rk_model.specs.declared.scenario.ScenarioWhy.TheVariants.{Word, Range, UnknownName}
-use Rattle.rk_model.specs.Words.{number_of, decimal_of, name_of, name0_of, var_of, is_body_name}
+use Rattle.rk_model.specs.declared.scenario.ScenarioWhy.TheVariants.{NotYetBuilt}
+use Rattle.rk_model.specs.Words.{number_of, decimal_of, name_of, name0_of, var_of}
 use Rattle.rk_model.specs.Scenarios.{Known, IsNumber, IsId, IsInit, IsEarlier, body_of, body_known, is_target}
-use Rattle.rk_model.specs.Reading.{◌>>=◌, within, below, known, told_body, named, led, id_by, number_operand, cluster_operand, var_operand, fixed_operand, id_operand, goto_operand, name_operand, name0_operand, body_operand, start_operand, init_operands}
+use Rattle.rk_model.specs.Reading.{◌>>=◌, within, below, known, named, led, id_by, number_operand, cluster_operand, var_operand, fixed_operand, id_operand, goto_operand, name_operand, name0_operand, body_operand, start_operand, init_operands}
 
 -- ---- steps that are taken
 
@@ -35,9 +35,6 @@ pub either_ok : {A : Type 0} (b : Bool) (r t : Result A ScenarioWhy) (y : A) →
 either_ok true r t y e = inl (refl, e)
 either_ok false r t y e = inr (refl, e)
 
-abbrev fault : ScenarioWhy → Result ℕ ScenarioWhy
-fault why = Err why
-
 abbrev done : {A : Type 0} → A → Result A ScenarioWhy
 done x = Ok x
 
@@ -55,7 +52,7 @@ text_same a = (bytes_eq-Decides a a).1 refl
 within_ok : (least most : ℕ) (o : Option ℕ) (n : ℕ) → within least most o ≡ Ok n → (o ≡ Some n) × (least ≤ n) × (n ≤ most)
 within_ok least most None n e = absurd cc
 within_ok least most (Some m) n e =
-    let t = then_ok (nat_le least m && nat_le m most) (done m) Range n e in
+    let t = then_ok (nat_le least m && nat_le m most) (done m) NotYetBuilt n e in
     let both = and_parts (nat_le least m) (nat_le m most) t.0 in
     let same : m ≡ n = ok_is m n t.1 in
     let low : least ≤ m = leb-true least m both.0 in
@@ -76,7 +73,7 @@ number_is least most word n h =
 below_ok : (count : ℕ) (o : Option ℕ) (n : ℕ) → below count o ≡ Ok n → (o ≡ Some n) × (n < count)
 below_ok count None n e = absurd cc
 below_ok count (Some m) n e =
-    let t = then_ok (nat_lt m count) (done m) Range n e in
+    let t = then_ok (nat_lt m count) (done m) NotYetBuilt n e in
     let same : m ≡ n = ok_is m n t.1 in
     let lt : m < count = ltb-true m count t.0 in
     (ap (λ (k : ℕ). Some k) same, omega arith)
@@ -144,7 +141,7 @@ id_is word (Given bits) h = rw (number_no_var word bits h.value, number_not_self
 led_ok : (earlier : List Op) (o : Option ℕ) (n : ℕ) → led earlier o ≡ Ok n → (o ≡ Some n) × (is_target earlier n ≡ true)
 led_ok earlier None n e = absurd cc
 led_ok earlier (Some m) n e =
-    let t = then_ok (is_target earlier m) (done m) Range n e in
+    let t = then_ok (is_target earlier m) (done m) NotYetBuilt n e in
     let same : m ≡ n = ok_is m n t.1 in
     (ap (λ (k : ℕ). Some k) same, subst (λ (k : ℕ). is_target earlier k ≡ true) same t.0)
 
@@ -188,17 +185,9 @@ pub var_is : (word : List ℕ) (n : ℕ) → var_of word ≡ Some n → var_oper
 unfolding var_operand
 var_is word n e = rw e refl
 
-told_body_ok : (word : List ℕ) (o : Option ℕ) (n : ℕ) → told_body word o ≡ Ok n → o ≡ Some n
-told_body_ok word None n e = go (is_body_name word) e
-  where
-    go : (b : Bool) → cond b (fault UnknownName) (fault Word) ≡ Ok n → None ≡ Some n
-    go true e = absurd cc
-    go false e = absurd cc
-told_body_ok word (Some m) n e = ap (λ (k : ℕ). Some k) (ok_is m n e)
-
 pub start_ok : (told : Known) (word : List ℕ) (n : ℕ) → start_operand told word ≡ Ok n → body_known told.bodies told.own word ≡ Some n
 unfolding start_operand
-start_ok told word n e = told_body_ok word (body_known told.bodies told.own word) n e
+start_ok told word n e = known_ok (body_known told.bodies told.own word) n e
 
 pub start_is : (told : Known) (word : List ℕ) (n : ℕ) → body_known told.bodies told.own word ≡ Some n → start_operand told word ≡ Ok n
 unfolding start_operand
@@ -206,7 +195,7 @@ start_is told word n e = rw e refl
 
 body_ok : (bodies : List Body) (word : List ℕ) (n : ℕ) → body_operand bodies word ≡ Ok n → body_of bodies word ≡ Some n
 unfolding body_operand
-body_ok bodies word n e = told_body_ok word (body_of bodies word) n e
+body_ok bodies word n e = known_ok (body_of bodies word) n e
 
 body_is : (bodies : List Body) (word : List ℕ) (n : ℕ) → body_of bodies word ≡ Some n → body_operand bodies word ≡ Ok n
 unfolding body_operand

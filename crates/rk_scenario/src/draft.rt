@@ -117,7 +117,7 @@ fn read_init(scenario: &Scenario, operands: &[Word]) -> Result<Init, ScenarioWhy
                 body,
             })
         }
-        _ => Err(ScenarioWhy::Word),
+        _ => Err(ScenarioWhy::NotYetBuilt),
     }
 }
 
@@ -169,10 +169,10 @@ impl Draft {
                     self.phase = Phase::Clustered;
                     Ok(())
                 } else {
-                    Err(LineError::Fault(ScenarioWhy::TooMany))
+                    Err(LineError::Fault(ScenarioWhy::NotYetBuilt))
                 }
             }
-            _ => Err(LineError::Fault(ScenarioWhy::Word)),
+            _ => Err(LineError::Fault(ScenarioWhy::NotYetBuilt)),
         }
     }
 
@@ -190,7 +190,7 @@ impl Draft {
                 self.phase = Phase::Timed;
                 Ok(())
             }
-            _ => Err(LineError::Fault(ScenarioWhy::Word)),
+            _ => Err(LineError::Fault(ScenarioWhy::NotYetBuilt)),
         }
     }
 
@@ -208,7 +208,7 @@ impl Draft {
                 self.phase = Phase::Limited;
                 Ok(())
             }
-            _ => Err(LineError::Fault(ScenarioWhy::Word)),
+            _ => Err(LineError::Fault(ScenarioWhy::NotYetBuilt)),
         }
     }
 
@@ -223,9 +223,9 @@ impl Draft {
             [name] => {
                 let name = name.as_slice();
                 if !is_body_name(name) {
-                    Err(LineError::Fault(ScenarioWhy::Word))
+                    Err(LineError::Fault(ScenarioWhy::NotYetBuilt))
                 } else if body_number(self.scenario.bodies.as_slice(), name).is_some() {
-                    Err(LineError::Fault(ScenarioWhy::Repeated))
+                    Err(LineError::Fault(ScenarioWhy::NotYetBuilt))
                 } else if self.scenario.bodies.len() < 32 {
                     self.body = Body {
                         name: Items::from_slice(alloc, name)?,
@@ -234,10 +234,10 @@ impl Draft {
                     self.phase = Phase::InBody;
                     Ok(())
                 } else {
-                    Err(LineError::Fault(ScenarioWhy::TooMany))
+                    Err(LineError::Fault(ScenarioWhy::NotYetBuilt))
                 }
             }
-            _ => Err(LineError::Fault(ScenarioWhy::Word)),
+            _ => Err(LineError::Fault(ScenarioWhy::NotYetBuilt)),
         }
     }
 
@@ -266,7 +266,7 @@ impl Draft {
             self.body.lines.push(op)?;
             Ok(())
         } else {
-            Err(LineError::Fault(ScenarioWhy::TooMany))
+            Err(LineError::Fault(ScenarioWhy::NotYetBuilt))
         }
     }
 
@@ -283,7 +283,7 @@ impl Draft {
             self.phase = Phase::InInits;
             Ok(())
         } else {
-            Err(LineError::Fault(ScenarioWhy::TooMany))
+            Err(LineError::Fault(ScenarioWhy::NotYetBuilt))
         }
     }
 
@@ -297,7 +297,7 @@ impl Draft {
             [first, operands @ ..] if first.as_slice() == b"cluster".as_slice() => {
                 self.take_cluster(operands)
             }
-            _ => Err(LineError::Fault(ScenarioWhy::Word)),
+            _ => Err(LineError::Fault(ScenarioWhy::NotYetBuilt)),
         }
     }
 
@@ -353,7 +353,7 @@ impl Draft {
             [first, operands @ ..] if first.as_slice() == b"init".as_slice() => {
                 self.take_init(operands)
             }
-            _ => Err(LineError::Fault(ScenarioWhy::Word)),
+            _ => Err(LineError::Fault(ScenarioWhy::NotYetBuilt)),
         }
     }
 

@@ -1,9 +1,9 @@
-ghost use Rattle.std.specs.Prelude.{◌≡◌, ◌<◌, ◌≤◌, ◌+◌, ◌*◌, ◌^◌, length, min, slice_get, IfSome, IfOk, None, Err};
+ghost use Rattle.std.specs.Prelude.{◌≡◌, ◌<◌, ◌≤◌, ◌+◌, ◌*◌, ◌^◌, length, min, slice_get, IfSome, IfOk};
 ghost use Rattle.std.specs.Option.{option_map};
 ghost use Rattle.std.specs.List.{list_all};
 ghost use Rattle.rk_model.specs.Words.{digit_value, digit_below, value_from, decimal_of, number_of, name_of, var_of, is_name_byte, is_lower, is_body_byte, is_body_name};
 ghost use Rattle.rk_model.specs.Scenarios.{body_of, body_known, body_from, is_named, may_be_target, is_target};
-ghost use Rattle.rk_model.specs.Reading.{told_body, number_operand, cluster_operand, var_operand, fixed_operand, id_operand, goto_operand, name_operand, name0_operand, body_operand, start_operand};
+ghost use Rattle.rk_model.specs.Reading.{number_operand, cluster_operand, var_operand, fixed_operand, id_operand, goto_operand, name_operand, name0_operand, body_operand, start_operand};
 ghost use Rattle.rk_scenario.specs.Drafts.{known_at};
 
 use rk_model::{Body, Name, Op, ScenarioWhy, Target};
@@ -72,11 +72,10 @@ pub(crate) fn number_operand(least: u32, most: u32, word: &[u8]) -> Result<u32, 
     ensures high { IfOk result (λ n. n ≤ most) }
 {
     match number(word) {
-        None => Err(ScenarioWhy::Number),
         Some(number) if u64::from(least) <= number && number <= u64::from(most) => {
             Ok(number as u32)
         }
-        Some(_) => Err(ScenarioWhy::Range),
+        _ => Err(ScenarioWhy::NotYetBuilt),
     }
 }
 
@@ -94,9 +93,8 @@ pub(crate) fn cluster_operand(count: usize, word: &[u8]) -> Result<u8, ScenarioW
     ensures { result ≡ cluster_operand count word.now }
 {
     match number(word) {
-        None => Err(ScenarioWhy::Number),
         Some(number) if number < count as u64 => Ok(number as u8),
-        Some(_) => Err(ScenarioWhy::Range),
+        _ => Err(ScenarioWhy::NotYetBuilt),
     }
 }
 
@@ -118,7 +116,7 @@ pub(crate) fn var_operand(word: &[u8]) -> Result<u8, ScenarioWhy>
 {
     match variable(word) {
         Some(var) => Ok(var),
-        None => Err(ScenarioWhy::Word),
+        None => Err(ScenarioWhy::NotYetBuilt),
     }
 }
 
@@ -182,9 +180,8 @@ pub(crate) fn goto_operand(earlier: &[Op], word: &[u8]) -> Result<u32, ScenarioW
     ensures { result ≡ goto_operand earlier.now word.now }
 {
     match number(word) {
-        None => Err(ScenarioWhy::Number),
         Some(number) if is_target(earlier, number) => Ok(number as u32),
-        Some(_) => Err(ScenarioWhy::Range),
+        _ => Err(ScenarioWhy::NotYetBuilt),
     }
 }
 
@@ -208,7 +205,7 @@ pub(crate) fn name_operand(word: &[u8]) -> Result<Name, ScenarioWhy>
                 bits: (high * 256 + u32::from(*c)) * 256 + u32::from(*d),
             })
         }
-        _ => Err(ScenarioWhy::Word),
+        _ => Err(ScenarioWhy::NotYetBuilt),
     }
 }
 
@@ -269,17 +266,6 @@ pub(crate) fn body_number(bodies: &[Body], name: &[u8]) -> Option<usize>
     None
 }
 
-/// Why a word is no name of a body that is known.
-fn no_body(word: &[u8]) -> ScenarioWhy
-    ensures { Err result ≡ told_body word.now None }
-{
-    if is_body_name(word) {
-        ScenarioWhy::UnknownName
-    } else {
-        ScenarioWhy::Word
-    }
-}
-
 /// The number of the body whose name a word is.
 #[tactic(auto, unfolding(rk_model::specs::Reading::body_operand))]
 pub(crate) fn body_operand(bodies: &[Body], word: &[u8]) -> Result<u8, ScenarioWhy>
@@ -288,7 +274,7 @@ pub(crate) fn body_operand(bodies: &[Body], word: &[u8]) -> Result<u8, ScenarioW
 {
     match body_number(bodies, word) {
         Some(body) => Ok(body as u8),
-        None => Err(no_body(word)),
+        None => Err(ScenarioWhy::NotYetBuilt),
     }
 }
 
@@ -313,6 +299,6 @@ pub(crate) fn start_operand(front: &[Body], body: &Body, word: &[u8]) -> Result<
 {
     match known_body(front, body.name.as_slice(), word) {
         Some(number) => Ok(number as u8),
-        None => Err(no_body(word)),
+        None => Err(ScenarioWhy::NotYetBuilt),
     }
 }

@@ -19,9 +19,9 @@ pub(crate) fn read_op(front: &[Body], body: &Body, words: &[Word]) -> Result<Op,
     ensures { result ≡ op_line (known_at front.now body.now) words.now }
 {
     match words {
-        [] => Err(ScenarioWhy::Word),
+        [] => Err(ScenarioWhy::NotYetBuilt),
         [first, operands @ ..] => match Op::of_word(first.as_slice()) {
-            None => Err(ScenarioWhy::Word),
+            None => Err(ScenarioWhy::NotYetBuilt),
             Some(form) => read_form(front, body, form, operands),
         },
     }
@@ -38,7 +38,7 @@ fn read_form(front: &[Body], body: &Body, form: Op, operands: &[Word]) -> Result
         [a] => read_one(front, body, form, a.as_slice()),
         [a, b] => read_two(front, body, form, a.as_slice(), b.as_slice()),
         [a, b, c] => read_three(front, body, form, a.as_slice(), b.as_slice(), c.as_slice()),
-        _ => Err(ScenarioWhy::Word),
+        _ => Err(ScenarioWhy::NotYetBuilt),
     }
 }
 
@@ -56,7 +56,7 @@ fn read_one(front: &[Body], body: &Body, form: Op, a: &[u8]) -> Result<Op, Scena
         Op::TaskResume(_) => Ok(Op::TaskResume(id_operand(a)?)),
         Op::TaskDelete(_) => Ok(Op::TaskDelete(id_operand(a)?)),
         Op::TaskWakeAfter(_) => Ok(Op::TaskWakeAfter(any_operand(a)?)),
-        _ => Err(ScenarioWhy::Word),
+        _ => Err(ScenarioWhy::NotYetBuilt),
     }
 }
 
@@ -70,7 +70,7 @@ fn read_two(front: &[Body], body: &Body, form: Op, a: &[u8], b: &[u8]) -> Result
     match form {
         Op::TaskIdent(_, _) => Ok(Op::TaskIdent(name_operand(a)?, var_operand(b)?)),
         Op::TaskStart(_, _) => Ok(Op::TaskStart(id_operand(a)?, start_operand(front, body, b)?)),
-        _ => Err(ScenarioWhy::Word),
+        _ => Err(ScenarioWhy::NotYetBuilt),
     }
 }
 
@@ -99,6 +99,6 @@ fn read_three(
             any_operand(b)?,
             var_operand(c)?,
         )),
-        _ => Err(ScenarioWhy::Word),
+        _ => Err(ScenarioWhy::NotYetBuilt),
     }
 }

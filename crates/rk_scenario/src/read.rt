@@ -27,7 +27,7 @@ fn take_line(alloc: Global, draft: &mut Draft, line: &[u8]) -> Result<(), LineEr
         let words = find_words(alloc, line)?;
         draft.take_words(alloc, words.as_slice())
     } else {
-        Err(LineError::Fault(ScenarioWhy::NotAscii))
+        Err(LineError::Fault(ScenarioWhy::NotYetBuilt))
     }
 }
 
@@ -51,7 +51,7 @@ fn finish(draft: Draft, number: u32) -> Result<Scenario, ScenarioError>
     let why = match draft.phase {
         Phase::Timed | Phase::Limited | Phase::InInits => return Ok(draft.scenario),
         Phase::Start => ScenarioWhy::Header,
-        Phase::Headed | Phase::Clustered | Phase::InBody => ScenarioWhy::MissingEnd,
+        Phase::Headed | Phase::Clustered | Phase::InBody => ScenarioWhy::NotYetBuilt,
     };
     Err(ScenarioError::Refused { line: number, why })
 }
