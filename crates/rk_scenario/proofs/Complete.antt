@@ -8,7 +8,7 @@ use Rattle.rk_model.specs.declared.scenario.Op.{Op}
 use Rattle.rk_model.specs.declared.scenario.Body.{Body}
 use Rattle.rk_model.specs.declared.scenario.Init.{Init}
 use Rattle.rk_model.specs.declared.scenario.Scenario.{Scenario}
-use Rattle.rk_model.specs.Scenarios.{Known, IsOp, AreOps, AreClusters, cpus_in, IsTicks, AreBodies, AreDistinct, AreInits, IsInit, body_of}
+use Rattle.rk_model.specs.Scenarios.{AreOps, AreClusters, cpus_in, IsTicks, AreBodies, AreDistinct, AreInits, IsInit, body_of}
 use Rattle.rk_model.specs.Reading.{Phase, Start, Headed, Clustered, Timed, Limited, InBody, InInits, Draft, no_body, op_line, init_operands, is_header, is_end, cluster_line, ticks_line, limit_line, body_line, inner_line, init_line, at_limited, after_told}
 use Rattle.rk_scenario.specs.Drafts.{known_at}
 use Rattle.rk_scenario.proofs.Spelled.{number_is, init_is}

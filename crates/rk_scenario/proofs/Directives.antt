@@ -1,16 +1,15 @@
 -- The words of a line of a body are those of the grammar exactly where the machine takes them.
-use Rattle.std.proofs.Common.{◌≡◌, ℕ, Bool, true, false, cond, inl, inr, List, [], ◌∷◌, Option, Some, None, Result, Ok, refl, ap, subst, sym, ◌∙◌}
+use Rattle.std.proofs.Common.{◌≡◌, ℕ, Bool, true, false, cond, List, [], ◌∷◌, Option, Some, None, Ok, refl, ap, subst, sym, ◌∙◌}
 use Rattle.std.specs.Option.{option_map}
 use Rattle.std.specs.Str.{bytes_eq}
 use Rattle.rk_model.specs.declared.forms.TheConstants.{FORMS}
 use Rattle.rk_model.specs.declared.scenario.Op.TheVariants.{Work}
 use Rattle.rk_model.specs.declared.scenario.Op.{Op}
-use Rattle.rk_model.specs.declared.scenario.ScenarioWhy.{ScenarioWhy}
 use Rattle.rk_model.specs.declared.scenario.ScenarioWhy.TheVariants.{NotYetBuilt}
 use Rattle.rk_model.specs.Forms.{Operand, Value, Makes, Form, Row, form_of, word_in, word_of, form_from, form_in}
 use Rattle.rk_model.specs.Scenarios.{Known, IsSpelled, Spell, IsOfForm, IsOp}
-use Rattle.rk_model.specs.Reading.{◌>>=◌, operand_of, fits, made_of, form_line, line_like, op_line, is_end}
-use Rattle.rk_scenario.proofs.Spelled.{bind_ok, then_ok, either_ok, ok_is, text_is, number_ok, number_is, var_ok, var_is, id_ok, id_is, goto_ok, goto_is, name_ok, name_is, name0_ok, name0_is, start_ok, start_is}
+use Rattle.rk_model.specs.Reading.{operand_of, fits, made_of, form_line, line_like, op_line, is_end}
+use Rattle.rk_scenario.proofs.Spelled.{bind_ok, then_ok, ok_is, text_is, number_ok, number_is, var_ok, var_is, id_ok, id_is, goto_ok, goto_is, name_ok, name_is, name0_ok, name0_is, start_ok, start_is}
 
 -- ---- operands
 
