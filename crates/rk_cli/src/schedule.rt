@@ -5,7 +5,7 @@ ghost use Rattle.std.specs.Fmt.{decimal, digits};
 ghost use Rattle.rk_model.specs.Running.{running, cpu_count};
 ghost use Rattle.rk_model.specs.Histories.{opening, is_end, ends};
 ghost use Rattle.rk_model.specs.Scenarios.{IsScenario};
-ghost use Rattle.rk_model.specs.Schedules.{word_of, reply_text, answer_text, name_in, seat_text, place_text, directive_text, view_text, views_from, tick_text, entry_text, text_from, last_text, schedule_text};
+ghost use Rattle.rk_model.specs.Schedules.{first_word, reply_text, answer_text, name_in, seat_text, place_text, directive_text, view_text, views_from, tick_text, entry_text, text_from, last_text, schedule_text};
 
 use crate::pieces::{push_bytes, push_decimal, push_hex, push_text};
 use rk_kernel::{Parts, cpus_of, open_parts, replay, run_view, scenario_of, tick_of};
@@ -13,22 +13,12 @@ use rk_model::{Entry, NoMemory, Op, Scenario, Status, View, What};
 use std::alloc::Global;
 
 /// Adds the first word of a directive.
-#[tactic(auto, unfolding(rk_model::specs::Schedules::word_of))]
 fn push_word(out: &mut Vec<u8>, op: Option<Op>) -> Result<(), NoMemory>
-    ensures { OnOk result (out.new.items ≡ out.old.items ++ word_of op) }
+    ensures { OnOk result (out.new.items ≡ out.old.items ++ first_word op) }
 {
     match op {
         None => push_text(out, "task.exit"),
-        Some(Op::Work(_)) => push_text(out, "work"),
-        Some(Op::Goto(_)) => push_text(out, "goto"),
-        Some(Op::TaskCreate(_, _, _)) => push_text(out, "task.create"),
-        Some(Op::TaskIdent(_, _)) => push_text(out, "task.ident"),
-        Some(Op::TaskStart(_, _)) => push_text(out, "task.start"),
-        Some(Op::TaskSuspend(_)) => push_text(out, "task.suspend"),
-        Some(Op::TaskResume(_)) => push_text(out, "task.resume"),
-        Some(Op::TaskSetPriority(_, _, _)) => push_text(out, "task.set_priority"),
-        Some(Op::TaskDelete(_)) => push_text(out, "task.delete"),
-        Some(Op::TaskWakeAfter(_)) => push_text(out, "task.wake_after"),
+        Some(op) => push_text(out, op.word()),
     }
 }
 

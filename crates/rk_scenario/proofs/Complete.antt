@@ -5,15 +5,14 @@ use Rattle.std.specs.Str.{bytes_eq}
 use Rattle.std.proofs.lemmas.Bool.{lt-ltb}
 use Rattle.std.proofs.lemmas.List.{append-nil}
 use Rattle.rk_model.specs.declared.scenario.Op.{Op}
-use Rattle.rk_model.specs.declared.scenario.Op.TheVariants.{Work, Goto, TaskCreate, TaskIdent, TaskStart, TaskSuspend, TaskResume, TaskSetPriority, TaskDelete, TaskWakeAfter}
 use Rattle.rk_model.specs.declared.scenario.Body.{Body}
 use Rattle.rk_model.specs.declared.scenario.Init.{Init}
 use Rattle.rk_model.specs.declared.scenario.Scenario.{Scenario}
-use Rattle.rk_model.specs.Scenarios.{Known, IsOp, AreOps, AreClusters, cpus_in, IsTicks, AreBodies, AreDistinct, AreInits, IsInit, body_of}
+use Rattle.rk_model.specs.Scenarios.{AreOps, AreClusters, cpus_in, IsTicks, AreBodies, AreDistinct, AreInits, IsInit, body_of}
 use Rattle.rk_model.specs.Reading.{Phase, Start, Headed, Clustered, Timed, Limited, InBody, InInits, Draft, no_body, op_line, init_operands, is_header, is_end, cluster_line, ticks_line, limit_line, body_line, inner_line, init_line, at_limited, after_told}
 use Rattle.rk_scenario.specs.Drafts.{known_at}
 use Rattle.rk_scenario.proofs.Spelled.{number_is, init_is}
-use Rattle.rk_scenario.proofs.Directives.{op_is}
+use Rattle.rk_scenario.proofs.Directives.{op_is, op_not_end}
 use Rattle.rk_scenario.proofs.Numbers.{room_for}
 use Rattle.rk_scenario.proofs.Named.{unknown_before}
 use Rattle.rk_scenario.proofs.Left.{InitsLeft, BodiesLeft, SetsLimit, LimitLeft, ClusterLeft, HeaderLeft, Completes, draft_at, ends, init_operands-kept}
@@ -265,19 +264,6 @@ timed_taken b o words told (line ∷ []) rest s limit told_is sets after =
 timed_taken b o words told (line ∷ more ∷ limits) rest s limit told_is sets after = absurd sets
 
 -- ---- lines of a body
-
-op_not_end : (told : Known) (words : List (List ℕ)) (op : Op) → IsOp told words op → is_end words ≡ false
-unfolding is_end
-op_not_end told words (Work n) h = rw h.1 refl
-op_not_end told words (Goto target) h = rw h.1 refl
-op_not_end told words (TaskCreate name prio var) h = rw h.3 refl
-op_not_end told words (TaskIdent name var) h = rw h.2 refl
-op_not_end told words (TaskStart id body) h = rw h.2 refl
-op_not_end told words (TaskSuspend id) h = rw h.1 refl
-op_not_end told words (TaskResume id) h = rw h.1 refl
-op_not_end told words (TaskSetPriority id prio var) h = rw h.3 refl
-op_not_end told words (TaskDelete id) h = rw h.1 refl
-op_not_end told words (TaskWakeAfter n) h = rw h.1 refl
 
 body_taken : (b : Scenario) (o : Body) (words : List (List ℕ)) (told : List (List (List ℕ))) (s : Scenario) (inner rest : List (List (List ℕ))) (more : List Op)
     → words ∷ told ≡ inner ++ (codes "end" ∷ []) ∷ rest → AreOps (known_at b.bodies o) inner more → length (o.lines ++ more) ≤ 1000

@@ -1,11 +1,12 @@
 -- The value of digits may be capped at each step, and processors are counted.
-use Rattle.std.proofs.Common.{◌≡◌, ℕ, ◌+◌, ◌*◌, ◌≤◌, min, Bool, true, ◌&&◌, List, [], ◌∷◌, ◌++◌, length, length-append, ap, refl, inl, inr, Option, Some, None, arith}
+use Rattle.std.proofs.Common.{zero, suc, ◌-◌, slice_get, ◌≡◌, ℕ, ◌+◌, ◌*◌, ◌≤◌, min, Bool, true, ◌&&◌, List, [], ◌∷◌, ◌++◌, length, length-append, ap, refl, ◌∙◌, inl, inr, Option, Some, None, arith}
 use Rattle.std.proofs.Math.Nat.{mul-le-mul_right}
 use Rattle.std.specs.Prelude.{nat_lt, nat_le}
 use Rattle.std.proofs.lemmas.Bool.{cases_lt, and_parts, leb-true, le-leb, ltb-true, lt-ltb}
 use Rattle.std.specs.Option.{option_map}
 use Rattle.rk_model.specs.Words.{value_from, value_on, digit_below, digit_value}
-use Rattle.rk_model.specs.Scenarios.{cpus_in}
+use Rattle.rk_model.specs.declared.scenario.Op.{Op}
+use Rattle.rk_model.specs.Scenarios.{cpus_in, may_be_target, is_target}
 
 -- a value up to a cap
 abbrev pub capped : Option ℕ → Option ℕ
@@ -67,3 +68,10 @@ room_for ms m more few few_cpus =
     let below = lt-ltb (length ms) 4 (omega (arith, length-append ms (m ∷ []), length-append (ms ++ m ∷ []) more, few)) in
     let within = le-leb (cpus_in ms + m) 8 (omega (arith, cpus_appended ms (m ∷ []), cpus_appended (ms ++ m ∷ []) more, few_cpus)) in
     rw (below, within) refl
+
+-- whether a number is that of a target says what stands at its line
+pub target_from : (earlier : List Op) (n : ℕ) (o : Option Op) → (n ≡ 0 → ⊥) → o ≡ slice_get earlier (n - 1) → may_be_target o ≡ is_target earlier n
+target_from earlier zero o some e = absurd (some refl)
+target_from earlier (suc i) o some e =
+    let back : suc i - 1 ≡ i = omega arith in
+    ap may_be_target (e ∙ ap (λ (k : ℕ). slice_get earlier k) back)

@@ -4,6 +4,7 @@ use Rattle.std.specs.Prelude.{nat_le, nat_lt}
 use Rattle.std.specs.Str.{bytes_eq}
 use Rattle.std.proofs.lemmas.Bool.{and_parts, eqb-true, leb-true, le-leb, ltb-true, lt-ltb, false_from_ne_true}
 use Rattle.std.proofs.lemmas.Slice.Eq.{bytes_eq-Decides}
+use Rattle.rk_model.specs.declared.numbers.Name.{Name as NameOf}
 use Rattle.rk_model.specs.declared.scenario.Op.{Op}
 use Rattle.rk_model.specs.declared.scenario.Target.{Target}
 use Rattle.rk_model.specs.declared.scenario.Target.TheVariants.{Var, Own, Given}
@@ -13,8 +14,8 @@ use Rattle.rk_model.specs.declared.scenario.Scenario.{Scenario}
 use Rattle.rk_model.specs.declared.scenario.ScenarioWhy.{ScenarioWhy}
 use Rattle.rk_model.specs.declared.scenario.ScenarioWhy.TheVariants.{NotYetBuilt}
 use Rattle.rk_model.specs.Words.{number_of, decimal_of, name_of, name0_of, var_of}
-use Rattle.rk_model.specs.Scenarios.{Known, IsNumber, IsId, IsInit, body_of, body_known, is_target}
-use Rattle.rk_model.specs.Reading.{◌>>=◌, within, below, known, led, id_by, number_operand, cluster_operand, var_operand, fixed_operand, id_operand, goto_operand, name_operand, name0_operand, body_operand, start_operand, init_operands}
+use Rattle.rk_model.specs.Scenarios.{Known, IsNumber, IsId, IsInit, IsEarlier, body_of, body_known, is_target}
+use Rattle.rk_model.specs.Reading.{◌>>=◌, within, below, known, named, led, id_by, number_operand, cluster_operand, var_operand, fixed_operand, id_operand, goto_operand, name_operand, name0_operand, body_operand, start_operand, init_operands}
 
 -- ---- steps that are taken
 
@@ -144,33 +145,37 @@ led_ok earlier (Some m) n e =
     let same : m ≡ n = ok_is m n t.1 in
     (ap (λ (k : ℕ). Some k) same, subst (λ (k : ℕ). is_target earlier k ≡ true) same t.0)
 
-pub goto_ok : (earlier : List Op) (word : List ℕ) (n : ℕ) → goto_operand earlier word ≡ Ok n → (number_of word ≡ Some n) × (is_target earlier n ≡ true)
+pub goto_ok : (earlier : List Op) (word : List ℕ) (n : ℕ) → goto_operand earlier word ≡ Ok n → IsEarlier earlier word n
 unfolding goto_operand
-goto_ok earlier word n e = led_ok earlier (number_of word) n e
+goto_ok earlier word n e = let l = led_ok earlier (number_of word) n e in record { value = l.0; target = l.1 }
 
-pub goto_is : (earlier : List Op) (word : List ℕ) (n : ℕ) → number_of word ≡ Some n → is_target earlier n ≡ true → goto_operand earlier word ≡ Ok n
+pub goto_is : (earlier : List Op) (word : List ℕ) (n : ℕ) → IsEarlier earlier word n → goto_operand earlier word ≡ Ok n
 unfolding goto_operand
-goto_is earlier word n e target = rw (e, target) refl
+goto_is earlier word n h = rw (h.value, h.target) refl
 
 known_ok : (o : Option ℕ) (n : ℕ) → known o ≡ Ok n → o ≡ Some n
 known_ok None n e = absurd cc
 known_ok (Some m) n e = ap (λ (k : ℕ). Some k) (ok_is m n e)
 
-pub name_ok : (word : List ℕ) (n : ℕ) → name_operand word ≡ Ok n → name_of word ≡ Some n
+named_ok : (o : Option ℕ) (name : NameOf) → named o ≡ Ok name → o ≡ Some name.bits
+named_ok None name e = absurd cc
+named_ok (Some n) name e = ap (λ (x : NameOf). Some x.bits) (ok_is (record { bits = n }) name e)
+
+pub name_ok : (word : List ℕ) (name : NameOf) → name_operand word ≡ Ok name → name_of word ≡ Some name.bits
 unfolding name_operand
-name_ok word n e = known_ok (name_of word) n e
+name_ok word name e = named_ok (name_of word) name e
 
-pub name_is : (word : List ℕ) (n : ℕ) → name_of word ≡ Some n → name_operand word ≡ Ok n
+pub name_is : (word : List ℕ) (name : NameOf) → name_of word ≡ Some name.bits → name_operand word ≡ Ok name
 unfolding name_operand
-name_is word n e = rw e refl
+name_is word name e = rw e refl
 
-pub name0_ok : (word : List ℕ) (n : ℕ) → name0_operand word ≡ Ok n → name0_of word ≡ Some n
+pub name0_ok : (word : List ℕ) (name : NameOf) → name0_operand word ≡ Ok name → name0_of word ≡ Some name.bits
 unfolding name0_operand
-name0_ok word n e = known_ok (name0_of word) n e
+name0_ok word name e = named_ok (name0_of word) name e
 
-pub name0_is : (word : List ℕ) (n : ℕ) → name0_of word ≡ Some n → name0_operand word ≡ Ok n
+pub name0_is : (word : List ℕ) (name : NameOf) → name0_of word ≡ Some name.bits → name0_operand word ≡ Ok name
 unfolding name0_operand
-name0_is word n e = rw e refl
+name0_is word name e = rw e refl
 
 pub var_ok : (word : List ℕ) (n : ℕ) → var_operand word ≡ Ok n → var_of word ≡ Some n
 unfolding var_operand
@@ -206,8 +211,8 @@ init_ok s (name ∷ []) init e = absurd cc
 init_ok s (name ∷ cluster ∷ []) init e = absurd cc
 init_ok s (name ∷ cluster ∷ priority ∷ []) init e = absurd cc
 init_ok s (name ∷ cluster ∷ priority ∷ body ∷ []) init e =
-    let made : ℕ → ℕ → ℕ → ℕ → Init = λ bits c p b. record { name = record { bits = bits }; cluster = c; prio = p; body = b } in
-    let n = bind_ok (name_operand name) (λ bits. cluster_operand (length s.clusters) cluster >>= (λ c. number_operand 1 255 priority >>= (λ p. body_operand s.bodies body >>= (λ b. Ok (made bits c p b))))) init e in
+    let made : NameOf → ℕ → ℕ → ℕ → Init = λ called c p b. record { name = called; cluster = c; prio = p; body = b } in
+    let n = bind_ok (name_operand name) (λ called. cluster_operand (length s.clusters) cluster >>= (λ c. number_operand 1 255 priority >>= (λ p. body_operand s.bodies body >>= (λ b. Ok (made called c p b))))) init e in
     let c = bind_ok (cluster_operand (length s.clusters) cluster) (λ c. number_operand 1 255 priority >>= (λ p. body_operand s.bodies body >>= (λ b. Ok (made n.0 c p b)))) init n.2 in
     let p = bind_ok (number_operand 1 255 priority) (λ p. body_operand s.bodies body >>= (λ b. Ok (made n.0 c.0 p b))) init c.2 in
     let b = bind_ok (body_operand s.bodies body) (λ b. Ok (made n.0 c.0 p.0 b)) init p.2 in
@@ -232,5 +237,5 @@ unfolding init_operands
 init_is s words init h = (
   h.name ∷ h.cluster ∷ h.priority ∷ h.body ∷ [],
   h.words_are,
-  rw (name_is h.name init.name.bits h.name_is, cluster_is (length s.clusters) h.cluster init.cluster h.cluster_is h.cluster_below, number_is 1 255 h.priority init.prio h.priority_is, body_is s.bodies h.body init.body h.body_is) refl,
+  rw (name_is h.name init.name h.name_is, cluster_is (length s.clusters) h.cluster init.cluster h.cluster_is h.cluster_below, number_is 1 255 h.priority init.prio h.priority_is, body_is s.bodies h.body init.body h.body_is) refl,
 )

@@ -9,7 +9,7 @@ use crate::operands::{
 };
 use crate::ops::read_op;
 use crate::words::{Word, is_skipped};
-use rk_model::{Body, Init, Items, Name, Prio, Scenario, ScenarioWhy};
+use rk_model::{Body, Init, Items, Prio, Scenario, ScenarioWhy};
 use std::alloc::Global;
 
 /// How far the lines have come that aren't skipped.
@@ -106,12 +106,12 @@ fn read_init(scenario: &Scenario, operands: &[Word]) -> Result<Init, ScenarioWhy
 {
     match operands {
         [name, cluster, priority, body] => {
-            let bits = name_operand(name.as_slice())?;
+            let name = name_operand(name.as_slice())?;
             let cluster = cluster_operand(scenario.clusters.len(), cluster.as_slice())?;
             let level = number_operand(1, 255, priority.as_slice())?;
             let body = body_operand(scenario.bodies.as_slice(), body.as_slice())?;
             Ok(Init {
-                name: Name { bits },
+                name,
                 cluster,
                 prio: Prio::new(level as u8),
                 body,

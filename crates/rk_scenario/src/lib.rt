@@ -8,7 +8,6 @@ mod lines;
 mod operands;
 mod ops;
 mod read;
-mod tasks;
 #[cfg(test)]
 mod tests;
 mod words;

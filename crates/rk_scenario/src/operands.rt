@@ -1,4 +1,4 @@
-ghost use Rattle.std.specs.Prelude.{◌≡◌, ◌<◌, ◌≤◌, ◌+◌, ◌*◌, ◌^◌, length, min, IfSome, IfOk};
+ghost use Rattle.std.specs.Prelude.{◌≡◌, ◌<◌, ◌≤◌, ◌+◌, ◌*◌, ◌^◌, length, min, slice_get, IfSome, IfOk};
 ghost use Rattle.std.specs.Option.{option_map};
 ghost use Rattle.std.specs.List.{list_all};
 ghost use Rattle.rk_model.specs.Words.{digit_value, digit_below, value_from, decimal_of, number_of, name_of, var_of, is_name_byte, is_lower, is_body_byte, is_body_name};
@@ -79,6 +79,13 @@ pub(crate) fn number_operand(least: u32, most: u32, word: &[u8]) -> Result<u32, 
     }
 }
 
+/// Any number of 32 bits that a word spells.
+pub(crate) fn any_operand(word: &[u8]) -> Result<u32, ScenarioWhy>
+    ensures { result ≡ number_operand 0 4294967295 word.now }
+{
+    number_operand(0, u32::MAX, word)
+}
+
 /// The number of a cluster, of which there are `count`.
 #[tactic(auto, unfolding(rk_model::specs::Reading::cluster_operand))]
 pub(crate) fn cluster_operand(count: usize, word: &[u8]) -> Result<u8, ScenarioWhy>
@@ -148,6 +155,13 @@ fn may_be_target(op: Option<Op>) -> bool
     }
 }
 
+/// The line of an index among earlier ones.
+fn line_at(earlier: &[Op], index: usize) -> Option<Op>
+    ensures { result ≡ slice_get earlier.now index }
+{
+    earlier.get(index).copied()
+}
+
 /// Whether a number is that, from 1, of one of these earlier lines that isn't a goto.
 fn is_target(earlier: &[Op], number: u64) -> bool
     ensures { result ≡ is_target earlier.now number }
@@ -155,7 +169,7 @@ fn is_target(earlier: &[Op], number: u64) -> bool
     if number == 0 {
         false
     } else {
-        may_be_target(earlier.get(number as usize - 1).copied())
+        may_be_target(line_at(earlier, number as usize - 1))
     }
 }
 
@@ -180,14 +194,16 @@ fn is_name_byte(byte: u8) -> bool
 
 /// The name of an object that a word spells.
 #[tactic(auto, unfolding(rk_model::specs::Words::name_of, rk_model::specs::Reading::name_operand))]
-pub(crate) fn name_operand(word: &[u8]) -> Result<u32, ScenarioWhy>
+pub(crate) fn name_operand(word: &[u8]) -> Result<Name, ScenarioWhy>
     ensures { result ≡ name_operand word.now }
 {
     match word {
         [a, b, c, d]
             if is_name_byte(*a) && is_name_byte(*b) && is_name_byte(*c) && is_name_byte(*d) => {
             let high = u32::from(*a) * 256 + u32::from(*b);
-            Ok((high * 256 + u32::from(*c)) * 256 + u32::from(*d))
+            Ok(Name {
+                bits: (high * 256 + u32::from(*c)) * 256 + u32::from(*d),
+            })
         }
         _ => Err(ScenarioWhy::NotYetBuilt),
     }
@@ -195,11 +211,11 @@ pub(crate) fn name_operand(word: &[u8]) -> Result<u32, ScenarioWhy>
 
 /// The name of an object that a word spells, where `-` is the name 0.
 #[tactic(auto, unfolding(rk_model::specs::Words::name0_of, rk_model::specs::Reading::name0_operand, rk_model::specs::Reading::name_operand))]
-pub(crate) fn name0_operand(word: &[u8]) -> Result<u32, ScenarioWhy>
+pub(crate) fn name0_operand(word: &[u8]) -> Result<Name, ScenarioWhy>
     ensures { result ≡ name0_operand word.now }
 {
     if word == b"-".as_slice() {
-        Ok(0)
+        Ok(Name { bits: 0 })
     } else {
         name_operand(word)
     }

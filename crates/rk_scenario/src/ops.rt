@@ -1,11 +1,11 @@
-ghost use Rattle.std.specs.Prelude.{◌≡◌, ◌≤◌, ◌∷◌, length, codes};
-ghost use Rattle.rk_model.specs.Reading.{op_line, plain_line, work_line, goto_line};
+ghost use Rattle.std.specs.Prelude.{◌≡◌, ◌≤◌, ◌∷◌, [], length};
+ghost use Rattle.rk_model.specs.Forms.{form_of};
+ghost use Rattle.rk_model.specs.Reading.{op_line, line_like, form_line};
 ghost use Rattle.rk_scenario.specs.Drafts.{known_at};
 
-use crate::operands::{goto_operand, number_operand};
-use crate::tasks::{
-    read_create, read_delete, read_ident, read_resume, read_set_priority, read_start, read_suspend,
-    read_wake_after,
+use crate::operands::{
+    any_operand, goto_operand, id_operand, name_operand, name0_operand, number_operand,
+    start_operand, var_operand,
 };
 use crate::words::Word;
 use rk_model::{Body, Op, ScenarioWhy};
@@ -20,83 +20,85 @@ pub(crate) fn read_op(front: &[Body], body: &Body, words: &[Word]) -> Result<Op,
 {
     match words {
         [] => Err(ScenarioWhy::NotYetBuilt),
-        [first, operands @ ..] => read_op_of(front, body, first.as_slice(), operands),
+        [first, operands @ ..] => match Op::of_word(first.as_slice()) {
+            None => Err(ScenarioWhy::NotYetBuilt),
+            Some(form) => read_form(front, body, form, operands),
+        },
     }
 }
 
-/// What a line of an open body stands for, by its first word and the others.
-#[tactic(auto, unfolding(rk_model::specs::Reading::op_line))]
-fn read_op_of(
-    front: &[Body],
-    body: &Body,
-    first: &[u8],
-    operands: &[Word],
-) -> Result<Op, ScenarioWhy>
+/// What a line of the form of this one stands for, by the words behind it.
+#[tactic(auto, unfolding(rk_model::specs::Reading::form_line))]
+fn read_form(front: &[Body], body: &Body, form: Op, operands: &[Word]) -> Result<Op, ScenarioWhy>
     requires bodies { length front.now ≤ 255 }
     requires lines { length body.now.lines ≤ 1000 }
-    ensures { result ≡ op_line (known_at front.now body.now) (first.now ∷ operands.now) }
-{
-    if first == b"goto".as_slice() {
-        read_goto(body.lines.as_slice(), operands)
-    } else if first == b"task.start".as_slice() {
-        read_start(front, body, operands)
-    } else {
-        read_plain(first, operands)
-    }
-}
-
-/// What a line of a body stands for that names no other line or body, by its first word and the
-/// others.
-#[tactic(auto, unfolding(rk_model::specs::Reading::plain_line))]
-fn read_plain(first: &[u8], operands: &[Word]) -> Result<Op, ScenarioWhy>
-    ensures { result ≡ plain_line first.now operands.now }
-{
-    if first == b"work".as_slice() {
-        read_work(operands)
-    } else if first == b"task.create".as_slice() {
-        read_create(operands)
-    } else if first == b"task.ident".as_slice() {
-        read_ident(operands)
-    } else if first == b"task.suspend".as_slice() {
-        read_suspend(operands)
-    } else if first == b"task.resume".as_slice() {
-        read_resume(operands)
-    } else if first == b"task.set_priority".as_slice() {
-        read_set_priority(operands)
-    } else if first == b"task.delete".as_slice() {
-        read_delete(operands)
-    } else if first == b"task.wake_after".as_slice() {
-        read_wake_after(operands)
-    } else {
-        Err(ScenarioWhy::NotYetBuilt)
-    }
-}
-
-/// `work N`, by the words behind the first.
-#[tactic(auto, unfolding(rk_model::specs::Reading::work_line))]
-fn read_work(operands: &[Word]) -> Result<Op, ScenarioWhy>
-    ensures { result ≡ work_line operands.now }
+    ensures { result ≡ form_line (known_at front.now body.now) (form_of form) operands.now }
 {
     match operands {
-        [ticks] => {
-            let ticks = number_operand(1, 1_000_000, ticks.as_slice())?;
-            Ok(Op::Work(ticks))
-        }
+        [a] => read_one(front, body, form, a.as_slice()),
+        [a, b] => read_two(front, body, form, a.as_slice(), b.as_slice()),
+        [a, b, c] => read_three(front, body, form, a.as_slice(), b.as_slice(), c.as_slice()),
         _ => Err(ScenarioWhy::NotYetBuilt),
     }
 }
 
-/// `goto K` behind these earlier lines of its body, by the words behind the first.
-#[tactic(auto, unfolding(rk_model::specs::Reading::goto_line))]
-fn read_goto(earlier: &[Op], operands: &[Word]) -> Result<Op, ScenarioWhy>
-    requires { length earlier.now ≤ 1000 }
-    ensures { result ≡ goto_line earlier.now operands.now }
+/// What a line of the form of this one with one operand stands for.
+#[tactic(auto, unfolding(rk_model::specs::Reading::form_line, rk_model::specs::Reading::operand_of))]
+fn read_one(front: &[Body], body: &Body, form: Op, a: &[u8]) -> Result<Op, ScenarioWhy>
+    requires bodies { length front.now ≤ 255 }
+    requires lines { length body.now.lines ≤ 1000 }
+    ensures { result ≡ form_line (known_at front.now body.now) (form_of form) (a.now ∷ []) }
 {
-    match operands {
-        [target] => {
-            let target = goto_operand(earlier, target.as_slice())?;
-            Ok(Op::Goto(target))
-        }
+    match form {
+        Op::Work(_) => Ok(Op::Work(number_operand(1, 1_000_000, a)?)),
+        Op::Goto(_) => Ok(Op::Goto(goto_operand(body.lines.as_slice(), a)?)),
+        Op::TaskSuspend(_) => Ok(Op::TaskSuspend(id_operand(a)?)),
+        Op::TaskResume(_) => Ok(Op::TaskResume(id_operand(a)?)),
+        Op::TaskDelete(_) => Ok(Op::TaskDelete(id_operand(a)?)),
+        Op::TaskWakeAfter(_) => Ok(Op::TaskWakeAfter(any_operand(a)?)),
+        _ => Err(ScenarioWhy::NotYetBuilt),
+    }
+}
+
+/// What a line of the form of this one with two operands stands for.
+#[tactic(auto, unfolding(rk_model::specs::Reading::form_line, rk_model::specs::Reading::operand_of))]
+fn read_two(front: &[Body], body: &Body, form: Op, a: &[u8], b: &[u8]) -> Result<Op, ScenarioWhy>
+    requires bodies { length front.now ≤ 255 }
+    requires lines { length body.now.lines ≤ 1000 }
+    ensures { result ≡ form_line (known_at front.now body.now) (form_of form) (a.now ∷ b.now ∷ []) }
+{
+    match form {
+        Op::TaskIdent(_, _) => Ok(Op::TaskIdent(name_operand(a)?, var_operand(b)?)),
+        Op::TaskStart(_, _) => Ok(Op::TaskStart(id_operand(a)?, start_operand(front, body, b)?)),
+        _ => Err(ScenarioWhy::NotYetBuilt),
+    }
+}
+
+/// What a line of the form of this one with three operands stands for.
+#[tactic(auto, unfolding(rk_model::specs::Reading::form_line, rk_model::specs::Reading::operand_of))]
+fn read_three(
+    front: &[Body],
+    body: &Body,
+    form: Op,
+    a: &[u8],
+    b: &[u8],
+    c: &[u8],
+) -> Result<Op, ScenarioWhy>
+    requires bodies { length front.now ≤ 255 }
+    requires lines { length body.now.lines ≤ 1000 }
+    ensures { result ≡ form_line (known_at front.now body.now) (form_of form) (a.now ∷ b.now ∷ c.now ∷ []) }
+{
+    match form {
+        Op::TaskCreate(_, _, _) => Ok(Op::TaskCreate(
+            name0_operand(a)?,
+            any_operand(b)?,
+            var_operand(c)?,
+        )),
+        Op::TaskSetPriority(_, _, _) => Ok(Op::TaskSetPriority(
+            id_operand(a)?,
+            any_operand(b)?,
+            var_operand(c)?,
+        )),
         _ => Err(ScenarioWhy::NotYetBuilt),
     }
 }

@@ -1,0 +1,78 @@
+-- The forms of the lines of a body, a row for each: its first word, its operands, and the op that their values make.
+use Rattle.std.specs.Prelude.{ℕ, List, [], ◌∷◌, Option, Some, None, codes, if◌then◌else◌}
+use Rattle.std.specs.Str.{bytes_eq}
+use Rattle.rk_model.specs.declared.forms.TheConstants.{FORMS}
+use Rattle.rk_model.specs.declared.numbers.Name.{Name as NameOf}
+use Rattle.rk_model.specs.declared.scenario.Target.{Target}
+use Rattle.rk_model.specs.declared.scenario.Op.{Op}
+use Rattle.rk_model.specs.declared.scenario.Op.TheVariants.{Work, Goto, TaskCreate, TaskIdent, TaskStart, TaskSuspend, TaskResume, TaskSetPriority, TaskDelete, TaskWakeAfter}
+
+-- What a word behind the first stands for.
+pub data Operand : Type 0 where
+  -- a number from least to most
+  Number : ℕ → ℕ → Operand
+  -- a name of an object
+  Name : Operand
+  -- a name of an object, or `-` for the name 0
+  Name0 : Operand
+  -- a variable
+  Var : Operand
+  -- an id
+  Id : Operand
+  -- a body's name
+  B : Operand
+  -- the number of an earlier line of the body that isn't a goto
+  Earlier : Operand
+
+-- any number of 32 bits
+abbrev pub Any : Operand
+Any = Number 0 4294967295
+
+-- what the word of an operand stands for
+abbrev pub Value : Operand → Type 0
+Value (Number least most) = ℕ
+Value Name = NameOf
+Value Name0 = NameOf
+Value Var = ℕ
+Value Id = Target
+Value B = ℕ
+Value Earlier = ℕ
+
+-- what makes an op of the values of operands
+abbrev pub Makes : List Operand → Type 0
+Makes [] = Op
+Makes (operand ∷ operands) = Value operand → Makes operands
+
+-- The form of a line: its first word, its operands, and the op that their values make.
+pub data Form : Type 0 where
+  Row : List ℕ → (operands : List Operand) → Makes operands → Form
+
+-- the form of the line of each op
+abbrev pub form_of : Op → Form
+form_of (Work n) = Row (codes "work") (Number 1 1000000 ∷ []) Work
+form_of (Goto target) = Row (codes "goto") (Earlier ∷ []) Goto
+form_of (TaskCreate name prio var) = Row (codes "task.create") (Name0 ∷ Any ∷ Var ∷ []) TaskCreate
+form_of (TaskIdent name var) = Row (codes "task.ident") (Name ∷ Var ∷ []) TaskIdent
+form_of (TaskStart id body) = Row (codes "task.start") (Id ∷ B ∷ []) TaskStart
+form_of (TaskSuspend id) = Row (codes "task.suspend") (Id ∷ []) TaskSuspend
+form_of (TaskResume id) = Row (codes "task.resume") (Id ∷ []) TaskResume
+form_of (TaskSetPriority id prio var) = Row (codes "task.set_priority") (Id ∷ Any ∷ Var ∷ []) TaskSetPriority
+form_of (TaskDelete id) = Row (codes "task.delete") (Id ∷ []) TaskDelete
+form_of (TaskWakeAfter n) = Row (codes "task.wake_after") (Any ∷ []) TaskWakeAfter
+
+-- the first word of a form
+abbrev pub word_in : Form → List ℕ
+word_in (Row word operands made) = word
+
+-- the first word of an op's line
+abbrev pub word_of : Op → List ℕ
+word_of op = word_in (form_of op)
+
+-- the first of these ops whose line has the first word
+abbrev pub form_from : List Op → List ℕ → Option Op
+form_from [] word = None
+form_from (op ∷ ops) word = if bytes_eq (word_of op) word then Some op else form_from ops word
+
+-- an op of the form that has the first word
+unfoldable pub form_in : List ℕ → Option Op
+form_in word = form_from FORMS word

@@ -1,0 +1,58 @@
+ghost use Rattle.std.specs.Prelude.{◌≡◌};
+ghost use Rattle.rk_model.specs.Forms.{word_of, form_from, form_in};
+
+use crate::numbers::Name;
+use crate::scenario::{Op, Target};
+
+/// A line of each form. What its operands are is of no account.
+pub const FORMS: [Op; 10] = [
+    Op::Work(1),
+    Op::Goto(1),
+    Op::TaskCreate(Name { bits: 0 }, 0, 0),
+    Op::TaskIdent(Name { bits: 0 }, 0),
+    Op::TaskStart(Target::Own, 0),
+    Op::TaskSuspend(Target::Own),
+    Op::TaskResume(Target::Own),
+    Op::TaskSetPriority(Target::Own, 0, 0),
+    Op::TaskDelete(Target::Own),
+    Op::TaskWakeAfter(0),
+];
+
+impl Op {
+    /// The first word of its line.
+    pub fn word(self) -> &'static str
+        ensures { result.now ≡ word_of self }
+    {
+        match self {
+            Op::Work(_) => "work",
+            Op::Goto(_) => "goto",
+            Op::TaskCreate(_, _, _) => "task.create",
+            Op::TaskIdent(_, _) => "task.ident",
+            Op::TaskStart(_, _) => "task.start",
+            Op::TaskSuspend(_) => "task.suspend",
+            Op::TaskResume(_) => "task.resume",
+            Op::TaskSetPriority(_, _, _) => "task.set_priority",
+            Op::TaskDelete(_) => "task.delete",
+            Op::TaskWakeAfter(_) => "task.wake_after",
+        }
+    }
+
+    /// A line of the form that has this first word.
+    pub fn of_word(word: &[u8]) -> Option<Op>
+        ensures { result ≡ form_in word.now }
+    {
+        find(FORMS.as_slice(), word)
+    }
+}
+
+/// The first of these that has the first word.
+fn find(forms: &[Op], word: &[u8]) -> Option<Op>
+    ensures { result ≡ form_from forms.now word.now }
+{
+    for form in forms {
+        if form.word().as_bytes() == word {
+            return Some(*form);
+        }
+    }
+    None
+}
