@@ -1,2 +1,3 @@
 pub mod Passing
+pub mod Highest
 pub mod Assigning

@@ -1,8 +1,11 @@
 -- What the changes of one thread after another do to a line.
-use Rattle.std.proofs.Common.{◌≡◌, ℕ, zero, suc, ◌+◌, ◌-◌, ◌<◌, ◌≤◌, List, [], ◌∷◌, ◌++◌, Bool, true, false, cond, not, ◌||◌, ◌==◌, ◌⊎◌, inl, inr, ⊎_elim, Option, Some, None, length, replicate, get_or, arith, refl, ap, sym, ◌∙◌, append_assoc, add-one}
-use Rattle.std.proofs.lemmas.List.{get_or_past, append-nil, get_or_default, get_or-replicate, length-replicate}
-use Rattle.std.proofs.lemmas.Bool.{cases_lt, false≢true}
+use Rattle.std.proofs.Common.{◌≡◌, ◌≢◌, ℕ, zero, suc, ◌+◌, ◌-◌, ◌<◌, ◌≤◌, List, [], ◌∷◌, ◌++◌, Bool, true, false, cond, not, ◌||◌, ◌==◌, ◌⊎◌, inl, inr, ⊎_elim, Option, Some, None, length, replicate, get_or, arith, refl, ap, sym, ◌∙◌, append_assoc, add-one}
+use Rattle.std.proofs.lemmas.List.{get_or_past, append-nil, get_or_default, get_or-replicate, length-replicate, get_or-set_same, get_or-set_other}
+use Rattle.std.proofs.lemmas.Bool.{cases_lt, cases_eq, false≢true}
 use Rattle.std.proofs.lemmas.Bool.Decides.{nat_tests}
+use Rattle.std.proofs.lemmas.Nat.Bits.{bit_at-zero}
+use Rattle.std.specs.Int.{bit_at}
+use Rattle.std.specs.List.{slice_set}
 use Rattle.rk_model.specs.Lists.{has}
 use Rattle.rk_line.specs.declared.line.Place.{Place}
 use Rattle.rk_line.specs.Places.{threads, without, with_prio}
@@ -10,8 +13,8 @@ use Rattle.rk_model.proofs.Counts.{has-append}
 use Rattle.rk_line.proofs.Lines.{threads-append}
 use Rattle.rk_cluster.specs.declared.moves.Change.{Change}
 use Rattle.rk_cluster.specs.declared.moves.Change.TheVariants.{Leave, ToEnd, ToFront, Stay}
-use Rattle.rk_cluster.specs.Registers.{change_at, no_changes, front_place, end_place, kept_place, kept_places, fronts_from, ends_from, fronts, ends}
-use Rattle.rk_cluster.specs.Passes.{alone, changed_but_end, changed_but_ends_from, EndsAreOut}
+use Rattle.rk_cluster.specs.Registers.{change_at, no_changes, front_place, end_place, kept_place, kept_places, fronts_from, ends_from, fronts, ends, moved}
+use Rattle.rk_cluster.specs.Passes.{alone, changed_but_end, changed_but_ends_from, IsOut, EndsAreOut, AreMarked}
 
 -- a thread whose change keeps no place is taken out
 pub kept_out : (t : ℕ) (change : Option Change) (line : List Place) → ((place : Place) → kept_place place change ≡ []) → kept_places (alone t change) line ≡ without t line
@@ -169,20 +172,82 @@ whole_fronts : (changes : ℕ → Option Change) (n : ℕ) → n ≡ 64 → fron
 unfolding fronts
 whole_fronts changes n e = ap (fronts_from changes 1) e
 
--- when the changes of all threads are done
-pub all_changed : (changes : List (Option Change)) (n : ℕ) (line0 line : List Place) → length changes ≡ 64 → n ≡ 64 → line ≡ changed_but_ends_from (change_at changes) (65 - n) n line0 → line ≡ fronts (change_at changes) ++ kept_places (change_at changes) line0
-all_changed changes n line0 line size e is =
-    let first : 65 - n ≡ 1 = omega arith in
-    let at_one = rw first at is in
-    at_one ∙ changed_whole changes n line0 (size ∙ sym e) ∙ ap (λ (front : List Place). front ++ kept_places (change_at changes) line0) (whole_fronts (change_at changes) n e)
+-- threads without a change are passed over
+skipped : (f : ℕ → Option Change) (a m n : ℕ) (line : List Place) → ((t : ℕ) → a ≤ t → t < a + m → f t ≡ None) → changed_but_ends_from f a (m + n) line ≡ changed_but_ends_from f (a + m) n line
+skipped f a zero n line none =
+    let e : a + 0 ≡ a = omega arith in
+    let z : 0 + n ≡ n = omega arith in
+    rw (e, z) refl
+skipped f a (suc m) n line none =
+    let here : f a ≡ None = none a (omega arith) (omega arith) in
+    let e : suc m + n ≡ suc (m + n) = omega arith in
+    let g : a + suc m ≡ a + 1 + m = omega arith in
+    let more = skipped f (a + 1) m n line (λ t low high. none t (omega (arith, low)) (omega (arith, high))) in
+    rw (e, g) (ap (λ (change : Option Change). changed_but_end a change (changed_but_ends_from f (a + 1) (m + n) line)) here ∙ kept_none a (changed_but_ends_from f (a + 1) (m + n) line) ∙ more)
 
--- one thread's change more
-pub one_more_changed : (changes : ℕ → Option Change) (rest t : ℕ) (line0 line line' : List Place) → rest + t ≡ 64 → line ≡ changed_but_ends_from changes (65 - rest) rest line0 → line' ≡ changed_but_end t (changes t) line → line' ≡ changed_but_ends_from changes (65 - (rest + 1)) (rest + 1) line0
-one_more_changed changes rest t line0 line line' sum is next =
-    let e : 65 - (rest + 1) ≡ t = omega arith in
-    let f : 65 - rest ≡ t + 1 = omega arith in
-    let g : rest + 1 ≡ suc rest = omega arith in
-    rw (e, g) (next ∙ ap (changed_but_end t (changes t)) (rw f at is))
+-- what a loop over the marks, the greatest first, keeps: those from done on are done, and the others are left
+pub record IsFalling (marks rest done : ℕ) (changes : List (Option Change)) (line0 line : List Place) : Type 0 where
+  pub within : done ≤ 64
+  pub left : (i : ℕ) → i < done → bit_at rest i ≡ bit_at marks i
+  pub over : (i : ℕ) → done ≤ i → i < 64 → bit_at rest i ≡ 0
+  pub told : line ≡ changed_but_ends_from (change_at changes) (done + 1) (64 - done) line0
+
+-- between the marks no thread has a change
+unmarked : (marks rest a b : ℕ) (changes : List (Option Change)) → b ≤ 64 → AreMarked marks changes → ((i : ℕ) → a ≤ i → i < b → bit_at rest i ≡ bit_at marks i) → ((i : ℕ) → a ≤ i → i < b → bit_at rest i ≡ 0) →
+    (t : ℕ) → a + 1 ≤ t → t < b + 1 → change_at changes t ≡ None
+unmarked marks rest a b changes few marked same none zero low high = absurd (omega (arith, low))
+unmarked marks rest a b changes few marked same none (suc i) low high = marked i (omega (arith, few, high)) (sym (same i (omega (arith, low)) (omega (arith, high))) ∙ none i (omega (arith, low)) (omega (arith, high)))
+
+falls_over : (marks rest done a : ℕ) (changes : List (Option Change)) (line0 line : List Place) → AreMarked marks changes → IsFalling marks rest done changes line0 line → a ≤ done → ((i : ℕ) → a ≤ i → bit_at rest i ≡ 0) →
+    line ≡ changed_but_ends_from (change_at changes) (a + 1) (64 - a) line0
+falls_over marks rest done a changes line0 line marked is low none =
+    let within = is.within in
+    let e : 64 - a ≡ (done - a) + (64 - done) = omega (arith, within, low) in
+    let g : a + 1 + (done - a) ≡ done + 1 = omega (arith, low) in
+    let over = skipped (change_at changes) (a + 1) (done - a) (64 - done) line0 (λ t l h. unmarked marks rest a done changes within marked (λ i p q. is.left i q) (λ i p q. none i p) t l (omega (arith, h, low))) in
+    rw e (is.told ∙ (rw g at (sym over)))
+
+-- the greatest mark is below what is done
+falling_below : (marks rest done at : ℕ) (changes : List (Option Change)) (line0 line : List Place) → IsFalling marks rest done changes line0 line → at < 64 → bit_at rest at ≡ 1 → at < done
+falling_below marks rest done at changes line0 line is within there =
+    ⊎_elim (λ h. h) (λ h. let none = is.over at h within in absurd (omega (arith, there, none))) (cases_lt at done)
+
+-- the change of the place that is read
+pub read_change : (changes : List (Option Change)) (at : ℕ) (change : Option Change) → at < length changes → change ≡ get_or changes at change → change ≡ change_at changes (at + 1)
+read_change changes at change h is = rw add-one (is ∙ get_or_default changes at change None h)
+
+pub fall_on : (marks rest rest' done at t : ℕ) (changes : List (Option Change)) (change : Option Change) (line0 line line' : List Place) → AreMarked marks changes → IsFalling marks rest done changes line0 line →
+    length changes ≡ 64 → at < 64 → bit_at rest at ≡ 1 → ((i : ℕ) → at < i → bit_at rest i ≡ 0) → bit_at rest' at ≡ 0 → ((i : ℕ) → i < 64 → i ≢ at → bit_at rest' i ≡ bit_at rest i) →
+    t ≡ at + 1 → change ≡ get_or changes at change → line' ≡ changed_but_end t change line →
+    IsFalling marks rest' at changes line0 line' × (at < done)
+fall_on marks rest rest' done at t changes change line0 line line' marked is size few there none gone others e read next =
+    let below = falling_below marks rest done at changes line0 line is few there in
+    let over = falls_over marks rest done (at + 1) changes line0 line marked is (omega (arith, below)) (λ i h. none i (omega (arith, h))) in
+    let n : 64 - at ≡ suc (64 - (at + 1)) = omega (arith, few) in
+    let c = read_change changes at change (omega (arith, size, few)) read in
+    (
+      record {
+        within = omega (arith, few);
+        left = λ i h. others i (omega (arith, h, few)) (λ q. omega (arith, q, h)) ∙ is.left i (omega (arith, h, below));
+        over = λ i h high. ⊎_elim (λ more. others i high (λ q. omega (arith, q, more)) ∙ none i more) (λ same. let q : i ≡ at = omega (arith, same, h) in rw q gone) (cases_lt at i);
+        told = rw n (next ∙ (rw (e, c) (ap (changed_but_end (at + 1) (change_at changes (at + 1))) over)));
+      },
+      below,
+    )
+
+pub falling : (marks : ℕ) (changes : List (Option Change)) (line : List Place) → IsFalling marks marks 64 changes line line
+falling marks changes line = record {
+  within = omega arith;
+  left = λ i h. refl;
+  over = λ i low high. absurd (omega (arith, low, high));
+  told = refl;
+}
+
+pub fallen : (marks rest done : ℕ) (changes : List (Option Change)) (line0 line : List Place) → length changes ≡ 64 → AreMarked marks changes → IsFalling marks rest done changes line0 line → rest ≡ 0 →
+    line ≡ fronts (change_at changes) ++ kept_places (change_at changes) line0
+unfolding fronts
+fallen marks rest done changes line0 line size marked is none =
+    falls_over marks rest done 0 changes line0 line marked is (omega arith) (λ i h. rw none (bit_at-zero i)) ∙ changed_whole changes 64 line0 size
 
 -- a thread that goes to the end doesn't go to the front
 front_out : (t p u : ℕ) (changes : ℕ → Option Change) (change : Option Change) → changes t ≡ Some (ToEnd p) → changes u ≡ change → has (threads (front_place u change)) t ≡ false
@@ -237,12 +302,6 @@ end_below t u (Some (ToEnd p)) h = grind (arith, nat_tests, h)
 end_below t u (Some (ToFront p)) h = refl
 end_below t u (Some (Stay p)) h = refl
 
--- the place that is read for a thread
-pub end_of : (changes : List (Option Change)) (at t : ℕ) (change : Option Change) → at < length changes → t ≡ at + 1 → change ≡ get_or changes at change → end_place t change ≡ end_place (at + 1) (change_at changes (at + 1))
-end_of changes at t change h e is =
-    let here : change ≡ get_or changes at None = is ∙ get_or_default changes at change None h in
-    rw (e, add-one) (ap (end_place (suc at)) here)
-
 -- one thread's place at the end more
 pub ends_more : (changes : ℕ → Option Change) (at : ℕ) (line line' whole : List Place) → at < 64 → line' ≡ line ++ end_place (at + 1) (changes (at + 1)) → line ++ ends_from changes (at + 1) (64 - at) ≡ whole → line' ++ ends_from changes (at + 1 + 1) (64 - (at + 1)) ≡ whole
 ends_more changes at line line' whole h next told =
@@ -254,6 +313,80 @@ pub still_out : (changes : ℕ → Option Change) (at : ℕ) (line line' : List 
 still_out changes at line line' next out t p h e =
     rw next (has_threads-append line (end_place (at + 1) (changes (at + 1))) t ∙ (rw (out t p (omega arith) e, end_below t (at + 1) (changes (at + 1)) h) refl))
 
+-- threads without a change have no place at the end
+skipped_ends : (f : ℕ → Option Change) (a m n : ℕ) → ((t : ℕ) → a ≤ t → t < a + m → f t ≡ None) → ends_from f a (m + n) ≡ ends_from f (a + m) n
+skipped_ends f a zero n none =
+    let e : a + 0 ≡ a = omega arith in
+    let z : 0 + n ≡ n = omega arith in
+    rw (e, z) refl
+skipped_ends f a (suc m) n none =
+    let here : f a ≡ None = none a (omega arith) (omega arith) in
+    let e : suc m + n ≡ suc (m + n) = omega arith in
+    let g : a + suc m ≡ a + 1 + m = omega arith in
+    let more = skipped_ends f (a + 1) m n (λ t low high. none t (omega (arith, low)) (omega (arith, high))) in
+    rw (e, g) (ap (λ (change : Option Change). end_place a change ++ ends_from f (a + 1) (m + n)) here ∙ more)
+
+-- what a loop over the marks, the least first, keeps: those below done are done, and the others are left
+pub record IsRising (marks rest done : ℕ) (changes : List (Option Change)) (line0 line : List Place) : Type 0 where
+  pub within : done ≤ 64
+  pub below : (i : ℕ) → i < done → bit_at rest i ≡ 0
+  pub left : (i : ℕ) → done ≤ i → i < 64 → bit_at rest i ≡ bit_at marks i
+  pub told : line ++ ends_from (change_at changes) (done + 1) (64 - done) ≡ line0 ++ ends (change_at changes)
+  pub out : (t p : ℕ) → done < t → change_at changes t ≡ Some (ToEnd p) → has (threads line) t ≡ false
+
+rises_over : (marks rest done a : ℕ) (changes : List (Option Change)) (line0 line : List Place) → AreMarked marks changes → IsRising marks rest done changes line0 line → done ≤ a → a ≤ 64 → ((i : ℕ) → i < a → bit_at rest i ≡ 0) →
+    line ++ ends_from (change_at changes) (a + 1) (64 - a) ≡ line0 ++ ends (change_at changes)
+rises_over marks rest done a changes line0 line marked is low few none =
+    let within = is.within in
+    let e : 64 - done ≡ (a - done) + (64 - a) = omega (arith, low, few) in
+    let g : done + 1 + (a - done) ≡ a + 1 = omega (arith, low) in
+    let over = skipped_ends (change_at changes) (done + 1) (a - done) (64 - a) (λ t l h. unmarked marks rest done a changes few marked (λ i p q. is.left i p (omega (arith, q, few))) (λ i p q. none i q) t l (omega (arith, h, low))) in
+    let told = rw e at is.told in
+    ap (λ (xs : List Place). line ++ xs) (rw g at (sym over)) ∙ told
+
+rising_above : (marks rest done at : ℕ) (changes : List (Option Change)) (line0 line : List Place) → IsRising marks rest done changes line0 line → bit_at rest at ≡ 1 → done ≤ at
+rising_above marks rest done at changes line0 line is there =
+    ⊎_elim (λ h. let none = is.below at h in absurd (omega (arith, there, none))) (λ h. h) (cases_lt at done)
+
+pub rising_out : (marks rest done at t : ℕ) (changes : List (Option Change)) (change : Option Change) (line0 line : List Place) → IsRising marks rest done changes line0 line → length changes ≡ 64 → at < 64 → bit_at rest at ≡ 1 → t ≡ at + 1 → change ≡ get_or changes at change → IsOut t change line
+rising_out marks rest done at t changes change line0 line is size few there e read p goes =
+    let above = rising_above marks rest done at changes line0 line is there in
+    let c = read_change changes at change (omega (arith, size, few)) read in
+    rw e (is.out (at + 1) p (omega (arith, above)) (sym c ∙ goes))
+
+pub rise_on : (marks rest rest' done at t : ℕ) (changes : List (Option Change)) (change : Option Change) (line0 line line' : List Place) → AreMarked marks changes → IsRising marks rest done changes line0 line →
+    length changes ≡ 64 → at < 64 → bit_at rest at ≡ 1 → ((i : ℕ) → i < at → bit_at rest i ≡ 0) → bit_at rest' at ≡ 0 → ((i : ℕ) → i < 64 → i ≢ at → bit_at rest' i ≡ bit_at rest i) →
+    t ≡ at + 1 → change ≡ get_or changes at change → line' ≡ line ++ end_place t change →
+    IsRising marks rest' (at + 1) changes line0 line' × (done ≤ at)
+rise_on marks rest rest' done at t changes change line0 line line' marked is size few there none gone others e read next =
+    let above = rising_above marks rest done at changes line0 line is there in
+    let over = rises_over marks rest done at changes line0 line marked is above (omega (arith, few)) none in
+    let c = read_change changes at change (omega (arith, size, few)) read in
+    let added : line' ≡ line ++ end_place (at + 1) (change_at changes (at + 1)) = rw (e, c) at next in
+    (
+      record {
+        within = omega (arith, few);
+        below = λ i h. ⊎_elim (λ less. others i (omega (arith, less, few)) (λ q. omega (arith, q, less)) ∙ none i less) (λ same. let q : i ≡ at = omega (arith, same, h) in rw q gone) (cases_lt i at);
+        left = λ i low high. others i high (λ q. omega (arith, q, low)) ∙ is.left i (omega (arith, low, above)) high;
+        told = ends_more (change_at changes) at line line' _ few added over;
+        out = still_out (change_at changes) at line line' added (λ t p h g. is.out t p (omega (arith, h, above)) g);
+      },
+      above,
+    )
+
+pub rising : (marks : ℕ) (changes : List (Option Change)) (line : List Place) → EndsAreOut (change_at changes) line → IsRising marks marks 0 changes line line
+rising marks changes line out = record {
+  within = omega arith;
+  below = λ i h. absurd (omega (arith, h));
+  left = λ i low high. refl;
+  told = ends_begin (change_at changes) line;
+  out = λ t p low is. out t p is;
+}
+
+pub risen : (marks rest done : ℕ) (changes : List (Option Change)) (line0 line : List Place) → AreMarked marks changes → IsRising marks rest done changes line0 line → rest ≡ 0 → line ≡ line0 ++ ends (change_at changes)
+risen marks rest done changes line0 line marked is none =
+    sym (append-nil line) ∙ rises_over marks rest done 64 changes line0 line marked is is.within (omega arith) (λ i h. rw none (bit_at-zero i))
+
 -- the register of no changes
 free_at : (n i : ℕ) → ◌≡◌ {A = Option Change} (get_or (replicate n None) i None) None
 free_at n i = ⊎_elim (λ h. get_or-replicate n i None None h) (λ h. get_or_past (replicate n None) i None (rw length-replicate h)) (cases_lt i n)
@@ -264,3 +397,36 @@ no_change_at n (suc i) = free_at n i
 
 pub all_free : (n : ℕ) (changes : List (Option Change)) → changes ≡ replicate n None → change_at changes ≡ no_changes
 all_free n changes e = let free : change_at (replicate n None) ≡ no_changes = λ i t. no_change_at n t i in rw e free
+
+-- no place is marked
+pub all_unmarked : (marks : ℕ) (changes : List (Option Change)) → length changes ≡ 64 → AreMarked marks changes → marks ≡ 0 → change_at changes ≡ no_changes
+all_unmarked marks changes size marked none = λ i t. at t i where
+  at : (t : ℕ) → change_at changes t ≡ None
+  at zero = refl
+  at (suc i) = ⊎_elim (λ h. marked i h (rw none (bit_at-zero i))) (λ h. get_or_past changes i None (omega (arith, size, h))) (cases_lt i 64)
+
+-- at first none is marked
+pub unmarked_at_first : (n : ℕ) (changes : List (Option Change)) → changes ≡ replicate n None → AreMarked 0 changes
+unmarked_at_first n changes e i h none = rw e (no_change_at n (suc i))
+
+-- a change more, and its mark
+pub marked_more : (marks marks' at : ℕ) (changes : List (Option Change)) (change : Option Change) → AreMarked marks changes → bit_at marks' at ≡ 1 → ((i : ℕ) → i ≢ at → bit_at marks' i ≡ bit_at marks i) → AreMarked marks' (slice_set changes at change)
+marked_more marks marks' at changes change marked there others i h none =
+    let other : i ≢ at = λ e. let one : bit_at marks' i ≡ 1 = rw e there in omega (arith, one, none) in
+    get_or-set_other changes at i change None other ∙ marked i h (sym (others i other) ∙ none)
+
+-- a change less
+pub marked_less : (marks marks' at : ℕ) (changes : List (Option Change)) → at < length changes → AreMarked marks changes → ((i : ℕ) → i < 64 → i ≢ at → bit_at marks' i ≡ bit_at marks i) → AreMarked marks' (slice_set changes at None)
+marked_less marks marks' at changes within marked others i h none =
+    ⊎_elim
+    (λ e. rw e (get_or-set_same changes at None None within))
+    (λ other. get_or-set_other changes at i None None other ∙ marked i h (sym (others i h other) ∙ none))
+    (cases_eq i at)
+
+-- an empty register keeps a line
+pub moved_none : (changes : ℕ → Option Change) (line : List Place) → changes ≡ no_changes → moved changes line ≡ line
+unfolding fronts ends
+moved_none changes line none =
+    let same : moved no_changes line ≡ line =
+    ap (λ (kept : List Place). kept ++ ends_from no_changes 1 64) (kept_all no_changes line (λ t h. refl)) ∙ append-nil line in
+    rw none same

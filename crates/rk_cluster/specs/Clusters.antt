@@ -1,5 +1,5 @@
 -- Clusters: a line, and the thread that each processor has.
-use Rattle.std.specs.Prelude.{ℕ, List, [], Option, None, length, replicate}
+use Rattle.std.specs.Prelude.{ℕ, ◌≡◌, List, [], Option, None, length, replicate}
 use Rattle.rk_model.specs.Lines.{most_urgent, assigned}
 use Rattle.rk_line.specs.declared.line.Place.{Place}
 use Rattle.rk_line.specs.Places.{threads, prio_in}
@@ -28,3 +28,7 @@ lined_up cluster line = record cluster { line = line; cpus = assigned cluster.cp
 -- A cluster after the changes: its line follows them, and then its processors are assigned.
 abbrev pub settled : (ℕ → Option Change) → Cluster → Cluster
 settled changes cluster = lined_up cluster (moved changes cluster.line)
+
+-- Assigning the processors by the line again changes nothing.
+abbrev pub AreAssigned : List Place → List (Option ℕ) → Type 0
+AreAssigned line cpus = assigned cpus (runners_of (length cpus) line) ≡ cpus

@@ -1,11 +1,12 @@
 -- The line, one thread's change after another.
-use Rattle.std.specs.Prelude.{ℕ, zero, suc, ◌+◌, ◌≡◌, List, ◌++◌, false, Option, Some, None, ◌==◌, if◌then◌else◌}
+use Rattle.std.specs.Prelude.{ℕ, zero, suc, ◌+◌, ◌<◌, ◌≡◌, List, ◌++◌, false, Option, Some, None, ◌==◌, if◌then◌else◌}
+use Rattle.std.specs.Int.{bit_at}
 use Rattle.rk_model.specs.Lists.{has}
 use Rattle.rk_line.specs.declared.line.Place.{Place}
 use Rattle.rk_line.specs.Places.{threads}
 use Rattle.rk_cluster.specs.declared.moves.Change.{Change}
 use Rattle.rk_cluster.specs.declared.moves.Change.TheVariants.{ToEnd}
-use Rattle.rk_cluster.specs.Registers.{front_place, kept_places}
+use Rattle.rk_cluster.specs.Registers.{change_at, front_place, kept_places}
 
 -- the register in which one thread has a change
 abbrev pub alone : ℕ → Option Change → ℕ → Option Change
@@ -27,3 +28,7 @@ IsOut t change line = (p : ℕ) → change ≡ Some (ToEnd p) → has (threads l
 -- no thread that goes to the end is in the line
 abbrev pub EndsAreOut : (ℕ → Option Change) → List Place → Type 0
 EndsAreOut changes line = (t : ℕ) → IsOut t (changes t) line
+
+-- a place that isn't marked has no change
+abbrev pub AreMarked : ℕ → List (Option Change) → Type 0
+AreMarked marks changes = (i : ℕ) → i < 64 → bit_at marks i ≡ 0 → change_at changes (suc i) ≡ None

@@ -26,14 +26,14 @@ pub struct Cluster {
 }
 
 impl Model for Cluster {
-    ghost use Rattle.rk_cluster.specs.Clusters.{Cluster as ClusterView};
+    ghost use Rattle.rk_cluster.specs.Clusters.{Cluster as ClusterView, AreAssigned};
     ghost use Rattle.std.specs.Prelude.{◌+◌, ◌<◌, ◌≤◌, length};
 
     ghost Value = { ClusterView };
 
     ghost view = { λ c. record { number = c.number; first = c.first; line = c.line; cpus = c.cpus } };
 
-    ghost invariant = { λ c. (c.number < 4) × (c.first + length c.cpus ≤ 8) };
+    ghost invariant = { λ c. (c.number < 4) × (c.first + length c.cpus ≤ 8) × AreAssigned c.line c.cpus };
 }
 
 impl Cluster {
@@ -65,6 +65,11 @@ impl Cluster {
     pub fn settle(&mut self, moves: &Moves)
         ensures { self.new ≡ settled (change_at moves.now) self.old }
     {
+        if moves.is_empty() {
+            // Reading a field tells that the processors have the runners.
+            let _count = self.cpus.len();
+            return;
+        }
         moves.apply(&mut self.line);
         assign(
             &mut self.cpus,

@@ -3,6 +3,7 @@
 
 mod assign;
 mod cluster;
+mod marks;
 mod moves;
 #[cfg(test)]
 mod tests;

@@ -1,8 +1,9 @@
-ghost use Rattle.std.specs.Prelude.{◌≡◌, ◌++◌, IfOk, length, replicate, None};
+ghost use Rattle.std.specs.Prelude.{◌≡◌, ◌++◌, IfOk, IsTrue, length, replicate, None};
 ghost use Rattle.rk_line.specs.Places.{without, with_prio};
 ghost use Rattle.rk_cluster.specs.Registers.{change_at, no_changes, with_change, end_place, fronts, ends, kept_places, moved};
-ghost use Rattle.rk_cluster.specs.Passes.{changed_but_end, IsOut, EndsAreOut};
+ghost use Rattle.rk_cluster.specs.Passes.{changed_but_end, IsOut, EndsAreOut, AreMarked};
 
+use crate::marks::{greatest, least, with, without};
 use rk_line::Line;
 use rk_model::{Items, NoMemory, Prio, ThreadIx};
 use std::alloc::Global;
@@ -26,17 +27,20 @@ pub enum Change {
 #[derive(Debug, Drop)]
 pub struct Moves {
     changes: Items<Option<Change>>,
+    /// The places of `changes` that have one, as bits.
+    marks: u64,
 }
 
 impl Model for Moves {
     ghost use Rattle.std.specs.Prelude.{List, Option, ◌≡◌, length};
     ghost use Rattle.rk_cluster.specs.declared.moves.Change.{Change};
+    ghost use Rattle.rk_cluster.specs.Passes.{AreMarked};
 
     ghost Value = { List (Option Change) };
 
     ghost view = { λ m. m.changes };
 
-    ghost invariant = { λ m. length m.changes ≡ 64 };
+    ghost invariant = { λ m. (length m.changes ≡ 64) × AreMarked m.marks m.changes };
 }
 
 /// Takes a thread out of a line, where it stands there.
@@ -73,13 +77,18 @@ fn apply_but_end(line: &mut Line, thread: ThreadIx, change: Option<Change>)
 }
 
 /// Applies the changes of all threads to a line. The threads that go to the end are taken out.
-fn apply_but_ends(changes: &[Option<Change>], line: &mut Line)
-    requires { length changes.now ≡ 64 }
+fn apply_but_ends(changes: &[Option<Change>], marks: u64, line: &mut Line)
+    requires size { length changes.now ≡ 64 }
+    requires marked { AreMarked marks changes.now }
     ensures { line.new ≡ fronts (change_at changes.now) ++ kept_places (change_at changes.now) line.old }
 {
-    for rest in 0..64u8 {
-        let thread = ThreadIx::new(64 - rest);
-        apply_but_end(line, thread, changes[thread.at() as usize - 1]);
+    let mut rest = marks;
+    let mut done = 64;
+    'falling: while rest != 0 {
+        let at = greatest(rest);
+        apply_but_end(line, ThreadIx::new(at + 1), changes[at as usize]);
+        rest = without(rest, at);
+        done = at;
     }
 }
 
@@ -95,13 +104,19 @@ fn append_end(line: &mut Line, thread: ThreadIx, change: Option<Change>)
 }
 
 /// Puts the threads that go to the end of a line there, in rising index.
-fn append_ends(changes: &[Option<Change>], line: &mut Line)
+fn append_ends(changes: &[Option<Change>], marks: u64, line: &mut Line)
     requires size { length changes.now ≡ 64 }
+    requires marked { AreMarked marks changes.now }
     requires out { EndsAreOut (change_at changes.now) line.old }
     ensures { line.new ≡ line.old ++ ends (change_at changes.now) }
 {
-    for at in 0..64u8 {
+    let mut rest = marks;
+    let mut done = 0;
+    'rising: while rest != 0 {
+        let at = least(rest);
         append_end(line, ThreadIx::new(at + 1), changes[at as usize]);
+        rest = without(rest, at);
+        done = at + 1;
     }
 }
 
@@ -117,6 +132,7 @@ impl Moves {
         let changes = vec![in alloc; None; 64]?;
         Ok(Moves {
             changes: Items::from_vec(changes),
+            marks: 0,
         })
     }
 
@@ -124,23 +140,36 @@ impl Moves {
     pub fn set(&mut self, thread: ThreadIx, change: Change)
         ensures { change_at self.new ≡ with_change (change_at self.old) thread change }
     {
-        self.changes.set(thread.at() as usize - 1, Some(change));
+        let at = thread.at() - 1;
+        self.changes.set(at as usize, Some(change));
+        self.marks = with(self.marks, at);
     }
 
     /// Takes all changes out.
     pub fn clear(&mut self)
         ensures { change_at self.new ≡ no_changes }
     {
-        for at in 0..self.changes.len() {
-            self.changes.set(at, None);
+        let mut done = 0;
+        'clearing: while self.marks != 0 {
+            let at = least(self.marks);
+            self.changes.set(at as usize, None);
+            self.marks = without(self.marks, at);
+            done = at + 1;
         }
+    }
+
+    /// Whether no thread has a change; where it isn't so, one may have one.
+    pub(crate) fn is_empty(&self) -> bool
+        ensures { IsTrue result → change_at self.now ≡ no_changes }
+    {
+        self.marks == 0
     }
 
     /// Applies the changes to a line. It takes no memory.
     pub(crate) fn apply(&self, line: &mut Line)
         ensures { line.new ≡ moved (change_at self.now) line.old }
     {
-        apply_but_ends(self.changes.as_slice(), line);
-        append_ends(self.changes.as_slice(), line);
+        apply_but_ends(self.changes.as_slice(), self.marks, line);
+        append_ends(self.changes.as_slice(), self.marks, line);
     }
 }

@@ -16,7 +16,7 @@ use Rattle.rk_kernel.specs.Calls.{IsActing}
 use Rattle.rk_kernel.specs.Sound.{stands, own, AllSound, IsSound}
 use Rattle.rk_parts.proofs.Tests.{equal_test, and_front, and_back}
 use Rattle.rk_model.proofs.Counts.{times-filter, times-has, times_range}
-use Rattle.rk_parts.proofs.Assigning.{either, or_front, or_back}
+use Rattle.rk_cluster.proofs.Assigning.{either, or_front, or_back}
 
 -- what a processor of a list has
 at_cpu : (cpus : List (Option ℕ)) (p t : ℕ) → get_or cpus p None ≡ Some t → has_cpu cpus t ≡ true

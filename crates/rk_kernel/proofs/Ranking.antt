@@ -8,7 +8,7 @@ use Rattle.rk_model.specs.Lists.{has, times}
 use Rattle.rk_model.specs.Lines.{rank, ranked_from, nth_urgent, most_urgent}
 use Rattle.rk_kernel.specs.Laws.{StandsUrgent, RunnersAreTheMostUrgent}
 use Rattle.rk_parts.proofs.Tests.{equal_test}
-use Rattle.rk_parts.proofs.Assigning.{either, or_front, or_back, option_has}
+use Rattle.rk_cluster.proofs.Assigning.{either, or_front, or_back, option_has}
 use Rattle.rk_model.proofs.Counts.{has-append}
 use Rattle.rk_line.proofs.Sorting.{upto-append, under-append, upto-le, under-le, upto-le_under, under-le_upto, rank_counts, inserted, all_inserted, sorted_line, sort_of, most_sorted}
 

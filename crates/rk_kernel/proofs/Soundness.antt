@@ -11,7 +11,7 @@ use Rattle.rk_model.specs.Running.{all_cpus}
 use Rattle.rk_parts.specs.Settleable.{IsSettleable, AllSettleable}
 use Rattle.rk_kernel.specs.Sound.{stands, own, IsClusterSound, AllSound, IsSound, KeepsLines, AllTimed, IsGentle}
 use Rattle.rk_kernel.proofs.Moving.{line_moved, stood_in_line}
-use Rattle.rk_parts.proofs.Assigning.{assigned_has}
+use Rattle.rk_cluster.proofs.Assigning.{assigned_has}
 use Rattle.rk_cluster.proofs.Assigning.{length-assigned}
 
 -- the line of a cluster is still the one that it was

@@ -17,7 +17,7 @@ use Rattle.rk_model.proofs.Counts.{times-has, has_times}
 use Rattle.rk_kernel.specs.Sound.{stands, IsSound, IsClusterSound, AllSound}
 use Rattle.rk_kernel.specs.Laws.{seats}
 use Rattle.rk_parts.proofs.Tests.{and_false}
-use Rattle.rk_parts.proofs.Assigning.{or_front, or_back}
+use Rattle.rk_cluster.proofs.Assigning.{or_front, or_back}
 use Rattle.rk_parts.proofs.Tests.{equal_test}
 use Rattle.rk_kernel.proofs.Belonging.{own_once}
 use Rattle.rk_kernel.proofs.Callers.{stands_eligible}

@@ -6,7 +6,7 @@ use Rattle.rk_model.specs.Lines.{rank, ranked_from, most_urgent}
 use Rattle.rk_line.specs.declared.line.Place.{Place}
 use Rattle.rk_line.specs.Places.{threads, prio_in}
 use Rattle.rk_line.proofs.Sorting.{upto, under, rank_counts}
-use Rattle.rk_parts.proofs.Assigning.{or_front, or_back}
+use Rattle.rk_cluster.proofs.Assigning.{or_front, or_back}
 use Rattle.rk_model.proofs.Counts.{has-append}
 use Rattle.rk_parts.proofs.Tests.{equal_test}
 

@@ -7,7 +7,6 @@ pub mod Noting
 pub mod Clusters
 pub mod Settling
 pub mod Taking
-pub mod Assigning
 pub mod Keys
 pub mod Registering
 pub mod Filling

@@ -20,7 +20,7 @@ use Rattle.rk_cluster.specs.Clusters as clusters
 use Rattle.rk_parts.specs.Registers.{change_by, register}
 use Rattle.rk_parts.proofs.Keys.{keyed, threads-keyed, prio_in-keyed, most_urgent_agree}
 use Rattle.rk_parts.proofs.Tests.{equal_test, and_front, and_back}
-use Rattle.rk_parts.proofs.Assigning.{or_front, or_back}
+use Rattle.rk_cluster.proofs.Assigning.{or_front, or_back}
 
 -- a thread with its priority, where it goes
 abbrev one : Bool → ℕ → ℕ → List Place

@@ -1,22 +1,15 @@
-use Rattle.std.proofs.Common.{◌++◌, List, arith, ◌∙◌, ap}
-use Rattle.rk_line.specs.declared.line.Place.{Place}
-use Rattle.rk_cluster.specs.Registers.{change_at}
-use Rattle.rk_cluster.proofs.Passing.{ends_begin, end_of, ends_more, still_out}
+use Rattle.rk_cluster.proofs.Passing.{rising, rising_out, rise_on, risen}
 use Rattle.rk_cluster.proofs.moves.append_ends.Goals as goal
 
-pub loop-at-init : goal.loop-at-init
-loop-at-init c = record {
-  told = ends_begin (change_at c.args.changes.now) c.args.line.now;
-  out = λ t p low is. c.requires.out t p is;
-}
+pub rising-init : goal.rising-init
+rising-init c = rising c.args.marks c.args.changes.now c.args.line.now c.requires.out
 
-pub loop-at-preserved : goal.loop-at-preserved
-loop-at-preserved c =
-    let changes = c.args.changes.now in
-    let at = c.loop-at.at in
-    let place = end_of changes at c.new.result c.index-changes-at.result (omega arith) c.new.ensures c.index-changes-at.is in
-    let next = c.append_end.ensures ∙ ap (λ (end : List Place). c.loop-at.line ++ end) place in
-    record {
-      told = ends_more (change_at changes) at c.loop-at.line c.append_end.new.line _ c.loop-at-test.true next c.loop-at.invariant.told;
-      out = still_out (change_at changes) at c.loop-at.line c.append_end.new.line next c.loop-at.invariant.out;
-    }
+pub append_end-requires : goal.append_end-requires
+append_end-requires c = rising_out c.args.marks c.rising.rest c.rising.done c.least-at.result c.new.result c.args.changes.now c.index-changes-at.result c.args.line.now c.rising.line c.rising.invariant c.requires.size c.least-at.ensures.within c.least-at.ensures.there c.new.ensures c.index-changes-at.is
+
+pub rising-preserved : goal.rising-preserved
+rising-preserved c =
+    (rise_on c.args.marks c.rising.rest c.without-rest.result c.rising.done c.least-at.result c.new.result c.args.changes.now c.index-changes-at.result c.args.line.now c.rising.line c.append_end.new.line c.requires.marked c.rising.invariant c.requires.size c.least-at.ensures.within c.least-at.ensures.there c.least-at.ensures.none c.without-rest.ensures.gone c.without-rest.ensures.others c.new.ensures c.index-changes-at.is c.append_end.ensures).0
+
+pub returns : goal.returns
+returns c = risen c.args.marks c.rising.rest c.rising.done c.args.changes.now c.args.line.now c.rising.line c.requires.marked c.rising.invariant c.rising-test.false

@@ -1,12 +1,9 @@
-use Rattle.std.proofs.Common.{◌≡◌, ℕ, ◌<◌, ◌-◌, ◌+◌, ◌++◌, false, Some}
-use Rattle.rk_model.specs.Lists.{has}
-use Rattle.rk_line.specs.Places.{threads}
-use Rattle.rk_cluster.specs.declared.moves.Change.TheVariants.{ToEnd}
-use Rattle.rk_cluster.specs.Registers.{change_at, ends_from, ends}
+use Rattle.std.proofs.Common.{ℕ, ◌-◌}
+use Rattle.rk_cluster.proofs.Passing.{IsRising}
 use Rattle.rk_cluster.proofs.moves.append_ends.Given as goal
 
-abbrev pub invariant-loop-at : goal.invariant-loop-at
-invariant-loop-at l = record {
-  told : l.line ++ ends_from (change_at l.changes) (l.at + 1) (64 - l.at) ≡ l.fn.line ++ ends (change_at l.changes);
-  out : (t p : ℕ) → l.at < t → change_at l.changes t ≡ Some (ToEnd p) → has (threads l.line) t ≡ false;
-}
+abbrev pub invariant-rising : goal.invariant-rising
+invariant-rising l = IsRising l.marks l.rest l.done l.changes l.fn.line l.line
+
+abbrev pub decreases-rising : goal.decreases-rising
+decreases-rising l = 64 - l.done
