@@ -22,7 +22,8 @@ use Rattle.rk_model.specs.Scenarios.{IsScenario}
 use Rattle.rk_kernel.specs.Sound.{stands, own, AllSound, IsClusterSound, IsSound, KeepsLines, IsGentle}
 use Rattle.rk_kernel.specs.Manned.{HasRunners, AllManned, AreManned}
 use Rattle.rk_kernel.specs.Laws.{seats, ProcessorsHaveTheRunners, NoneRunsTwice}
-use Rattle.rk_kernel.proofs.Moving.{line_moved, standing_at, length-standings}
+use Rattle.rk_kernel.proofs.Moving.{line_moved}
+use Rattle.rk_parts.proofs.Noting.{length-standings, standing_at}
 use Rattle.rk_cluster.proofs.Assigning.{length-assigned}
 use Rattle.rk_kernel.proofs.Passing.{passed_steady}
 use Rattle.rk_kernel.proofs.Belonging.{own_once, sound_at}

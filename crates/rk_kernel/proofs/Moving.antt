@@ -12,6 +12,7 @@ use Rattle.rk_model.specs.State.{Plain, no_thread, thread_at}
 use Rattle.rk_model.specs.Priorities.{is_eligible, standing, standings, standings_from, no_standing, nth_standing}
 use Rattle.rk_model.specs.Settling.{is_stay, is_to_end, is_to_front, move_of, moves, makes, making, moved}
 use Rattle.rk_parts.proofs.Tests.{and_false, and_back}
+use Rattle.rk_parts.proofs.Noting.{length-standings, standing_at}
 use Rattle.rk_kernel.specs.Sound.{stands, own, IsGentle}
 use Rattle.rk_model.proofs.Counts.{times-append, times-filter, times-has, has_times, once_in_range}
 
@@ -57,15 +58,6 @@ times-moved before now last threads c line t held =
     let e = times-filter (makes is_to_end move threads c) t r in
     let one = one_place ((nth no_thread threads t).home == c) is.eligible was.eligible (nat_lt is.prio was.prio) (has last t) (nat_lt was.prio is.prio) (times t r) in
     a ∙ (rw (f, s, e, held) one)
-
-pub length-standings : (k : Plain) (a n : ℕ) → length (standings_from k a n) ≡ n
-length-standings k a zero = refl
-length-standings k a (suc n) = omega (arith, length-standings k (a + 1) n)
-
-pub standing_at : (k : Plain) (a n i : ℕ) → i < n → get_or (standings_from k a n) i no_standing ≡ standing k (a + i)
-standing_at k a zero i h = absurd (omega arith)
-standing_at k a (suc n) zero h = let e : a + 0 ≡ a = omega arith in rw e refl
-standing_at k a (suc n) (suc i) h = let e : a + suc i ≡ a + 1 + i = omega arith in rw e (standing_at k (a + 1) n i (omega arith))
 
 -- the register says of each index whether the thread there is eligible
 pub eligible_noted : (k : Plain) (t : ℕ) → (nth_standing (standings k) t).eligible ≡ is_eligible k t

@@ -9,7 +9,7 @@ use Rattle.rk_parts.specs.declared.core_state.Core.{Core}
 use Rattle.rk_parts.specs.Pieces.{cluster_of, clusters_of, plain_of}
 use Rattle.rk_parts.specs.Settleable.{AllSettleable}
 use Rattle.rk_kernel.specs.Sound.{IsSound, IsGentle}
-use Rattle.rk_kernel.proofs.Moving.{length-standings}
+use Rattle.rk_parts.proofs.Noting.{length-standings}
 use Rattle.rk_kernel.proofs.Soundness.{settleable, sound_settled, length-kept, length-settled}
 
 -- a list that notes how the threads stand has 64 places

@@ -1,5 +1,5 @@
 -- Changes of one cluster of the pieces, and the state that they stand for.
-use Rattle.std.proofs.Common.{◌≡◌, ℕ, ◌<◌, ◌++◌, [], ◌∷◌, List, length, refl, sym, ap, ◌∙◌}
+use Rattle.std.proofs.Common.{◌≡◌, ℕ, ◌<◌, ◌++◌, [], ◌∷◌, List, length, get_or, refl, sym, ap, ◌∙◌}
 use Rattle.std.specs.List.{slice_set, slice_index_or}
 use Rattle.std.proofs.lemmas.List.{map-set, get_or-map}
 use Rattle.rk_model.specs.declared.state.Armed.{Armed}
@@ -9,6 +9,8 @@ use Rattle.rk_model.specs.Timers.{arm, cancel, take_due, without_due, without_ti
 use Rattle.rk_parts.specs.declared.core_state.ClusterPart.{ClusterPart}
 use Rattle.rk_parts.specs.declared.core_state.Core.{Core}
 use Rattle.rk_parts.specs.Pieces.{cluster_of, plain_of}
+use Rattle.rk_parts.specs.Pinned.{linings}
+use Rattle.std.proofs.Math.Seq.{map-set_same}
 
 -- the cluster of a number is that of its part
 pub cluster_at-plain_of : (core : Core) (c : ℕ) (part : ClusterPart) → c < length core.clusters → part ≡ slice_index_or core.clusters c part → cluster_at (plain_of core) c ≡ cluster_of part
@@ -36,3 +38,8 @@ put_taken core c part timers h is e = put_timers core c part timers h is ∙ rw 
 pub put_cancelled : (core : Core) (c : ℕ) (who : Armer) (part : ClusterPart) (timers : List Armed) → c < length core.clusters → part ≡ slice_index_or core.clusters c part → timers ≡ without_timer who part.timers →
     plain_of (record core { clusters = slice_set core.clusters c (record part { timers = timers }) }) ≡ cancel (plain_of core) c who
 put_cancelled core c who part timers h is e = put_timers core c part timers h is ∙ rw (e, cluster_at-plain_of core c part h is) refl
+
+-- a part with the same stored cluster is put back: the stored clusters are as before
+pub same_linings : (parts : List ClusterPart) (i : ℕ) (part next : ClusterPart) → i < length parts → part ≡ get_or parts i part → next.lined ≡ part.lined → linings (slice_set parts i next) ≡ linings parts
+same_linings parts i part next within is same =
+    map-set_same (λ (p : ClusterPart). p.lined) parts i next part (same ∙ ap (λ (p : ClusterPart). p.lined) is)

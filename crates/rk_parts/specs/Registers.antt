@@ -9,16 +9,16 @@ use Rattle.rk_model.specs.State.{no_thread}
 use Rattle.rk_model.specs.Priorities.{nth_standing}
 use Rattle.rk_model.specs.Settling.{moves}
 use Rattle.rk_cluster.specs.declared.moves.Change.{Change}
-use Rattle.rk_cluster.specs.declared.moves.Change.TheVariants.{Leave, ToEnd, ToFront, Stay}
+use Rattle.rk_cluster.specs.declared.moves.Change.TheVariants.{Leave, ToEnd, ToFront}
 
--- the change of a thread with this move and this priority, which stood in the line before or didn't; none where it neither stood there nor comes there
+-- the change of a thread with this move and this priority, which stood in the line before or didn't; none where it stays, since its place has its priority already, and where it neither stood there nor comes there
 abbrev pub change_by : Bool → Move → ℕ → Option Change
-change_by stood asked.Stay prio = Some (Stay prio)
+change_by stood asked.Stay prio = None
 change_by stood asked.Leave prio = if stood then Some Leave else None
 change_by stood asked.ToEnd prio = Some (ToEnd prio)
 change_by stood asked.ToFront prio = Some (ToFront prio)
 
--- The register of a cluster: for each thread of that home what settling asks of it, with the priority that it has now.
+-- The register of a cluster: for each thread of that home that moves what settling asks of it, with the priority that it has now.
 abbrev pub register : List Standing → List Standing → List ℕ → List Thread → ℕ → ℕ → Option Change
 register before now last threads c t =
     if (nth no_thread threads t).home == c then change_by (nth_standing before t).eligible (moves before now last t) (nth_standing now t).prio else None

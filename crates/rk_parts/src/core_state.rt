@@ -35,8 +35,10 @@ pub struct Core {
 pub struct Scratch {
     /// How each thread stood before the change.
     pub before: Items<Standing>,
-    /// How each thread stands after it.
+    /// How each thread stands after it; between the steps the same.
     pub now: Items<Standing>,
+    /// The threads of which some may stand otherwise after the change, or go last; no other does.
+    pub touched: Threads,
     /// The threads that yielded or had their base priority set.
     pub last: Threads,
     /// What settling does to the threads of a cluster.

@@ -5,6 +5,7 @@ ghost use Rattle.rk_model.specs.Running.{all_cpus, cpu_count, running, caller, l
 ghost use Rattle.rk_model.specs.Outcomes.{landing, work_at, arrived};
 ghost use Rattle.rk_parts.specs.Pieces.{plain_of, clusters_of};
 ghost use Rattle.rk_model.specs.Limits.{AreRunnable};
+ghost use Rattle.rk_parts.specs.Pinned.{linings};
 
 use crate::core_state::{ClusterPart, Core};
 use crate::standing::{spins, thread_of};
@@ -48,7 +49,8 @@ pub fn arrive(scenario: &Scenario, thread: Thread, line: u16) -> Thread
 
 /// Puts another thread at an index.
 pub fn put(core: &mut Core, index: ThreadIx, thread: Thread)
-    ensures { plain_of core.new ≡ put_thread (plain_of core.old) index thread }
+    ensures next { plain_of core.new ≡ put_thread (plain_of core.old) index thread }
+    ensures lined { linings core.new.clusters ≡ linings core.old.clusters }
 {
     let at = index.at() as usize - 1;
     if at < core.threads.len() {

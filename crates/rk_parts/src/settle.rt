@@ -1,16 +1,18 @@
-ghost use Rattle.std.specs.Prelude.{◌≡◌, ◌≤◌, length, Option, None};
+ghost use Rattle.std.specs.Prelude.{◌≡◌, ◌≤◌, ℕ, length, Option, None, false};
+ghost use Rattle.rk_model.specs.Lists.{has};
 ghost use Rattle.rk_model.specs.Priorities.{standings};
 ghost use Rattle.rk_model.specs.Settling.{move_of, moves, key_of, settled_cluster, settled_from, settle_by};
 ghost use Rattle.rk_parts.specs.Pieces.{plain_of, cluster_of, clusters_of};
 ghost use Rattle.rk_cluster.specs.Registers.{change_at};
 ghost use Rattle.rk_parts.specs.Registers.{change_by, register};
+ghost use Rattle.rk_cluster.specs.Clusters.{settled};
+ghost use Rattle.rk_parts.specs.Pinned.{linings, relined, IsKeyed, AllKeyed, AreNumbered, AreTouched};
 ghost use Rattle.rk_parts.specs.Settleable.{IsSettleable, AllSettleable};
 
 use crate::core_state::{ClusterPart, Core, Scratch};
-use crate::standing::{note_all, nth_of, thread_of};
+use crate::standing::{note_some, nth_of, thread_of};
 use rk_cluster::{Change, Moves};
 use rk_model::{Items, Move, Prio, Standing, Thread, ThreadIx};
-use std::mem;
 
 /// What settling asks of a thread that stood and stands like this.
 #[tactic(auto, unfolding(rk_model::specs::Settling::move_of))]
@@ -38,12 +40,12 @@ fn move_at(before: &[Standing], now: &[Standing], last: &[ThreadIx], thread: Thr
 }
 
 /// The change of a thread with this move and this priority, which stood in the line before or
-/// didn't; none where it neither stood there nor comes there.
+/// didn't; none where it stays, and where it neither stood there nor comes there.
 fn change_for(stood: bool, asked: Move, prio: Prio) -> Option<Change>
     ensures { result ≡ change_by stood asked prio }
 {
     match asked {
-        Move::Stay => Some(Change::Stay(prio)),
+        Move::Stay => None,
         Move::ToEnd => Some(Change::ToEnd(prio)),
         Move::ToFront => Some(Change::ToFront(prio)),
         Move::Leave => { if stood { Some(Change::Leave) } else { None } }
@@ -70,43 +72,44 @@ fn change_at(
     }
 }
 
-/// Writes the register of a cluster.
+/// Writes the register of a cluster, in which none but the threads of `touched` have a change.
 fn fill_register(
     out: &mut Moves,
+    touched: &[ThreadIx],
     before: &[Standing],
     now: &[Standing],
     last: &[ThreadIx],
     threads: &[Thread],
     cluster: u8,
 )
-    requires before { length before.now ≡ 64 }
-    requires now { length now.now ≡ 64 }
-    requires threads { length threads.now ≡ 64 }
+    requires { AreTouched touched.now before.now now.now last.now }
     ensures { change_at out.new ≡ register before.now now.now last.now threads.now cluster }
 {
     out.clear();
-    for at in 0..threads.len() {
-        let thread = ThreadIx::new(at as u8 + 1);
-        if let Some(change) = change_at(before, now, last, threads, cluster, thread) {
-            out.set(thread, change);
+    for thread in touched {
+        if let Some(change) = change_at(before, now, last, threads, cluster, *thread) {
+            out.set(*thread, change);
         }
     }
 }
 
 /// Settles a cluster.
 fn settle_cluster(cluster: &mut ClusterPart, scratch: &mut Scratch, threads: &[Thread], number: u8)
-    requires before { length scratch.old.before ≡ 64 }
-    requires now { length scratch.old.now ≡ 64 }
-    requires threads { length threads.now ≡ 64 }
+    requires touched { AreTouched scratch.old.touched scratch.old.before scratch.old.now scratch.old.last }
+    requires places { length threads.now ≡ 64 }
     requires lines { IsSettleable scratch.old.before threads.now number (cluster_of cluster.old) }
+    requires keyed { IsKeyed (key_of scratch.old.before) cluster.old.lined.line }
     ensures cluster { cluster_of cluster.new ≡ settled_cluster (moves scratch.old.before scratch.old.now scratch.old.last) (key_of scratch.old.now) threads.now number (cluster_of cluster.old) }
+    ensures lined { cluster.new.lined ≡ settled (register scratch.old.before scratch.old.now scratch.old.last threads.now number) cluster.old.lined }
     ensures before { scratch.new.before ≡ scratch.old.before }
     ensures now { scratch.new.now ≡ scratch.old.now }
+    ensures touched { scratch.new.touched ≡ scratch.old.touched }
     ensures last { scratch.new.last ≡ scratch.old.last }
     ensures threads { scratch.new.threads ≡ scratch.old.threads }
 {
     fill_register(
         &mut scratch.moves,
+        scratch.touched.as_slice(),
         scratch.before.as_slice(),
         scratch.now.as_slice(),
         scratch.last.as_slice(),
@@ -118,14 +121,16 @@ fn settle_cluster(cluster: &mut ClusterPart, scratch: &mut Scratch, threads: &[T
 
 /// Settles each cluster.
 fn settle_all(clusters: &mut Items<ClusterPart>, scratch: &mut Scratch, threads: &[Thread])
-    requires before { length scratch.old.before ≡ 64 }
-    requires now { length scratch.old.now ≡ 64 }
+    requires touched { AreTouched scratch.old.touched scratch.old.before scratch.old.now scratch.old.last }
     requires places { length threads.now ≡ 64 }
     requires clusters { length clusters.old ≤ 4 }
     requires lines { AllSettleable scratch.old.before threads.now 0 (clusters_of clusters.old) }
+    requires keyed { AllKeyed (key_of scratch.old.before) (linings clusters.old) }
     ensures clusters { clusters_of clusters.new ≡ settled_from (moves scratch.old.before scratch.old.now scratch.old.last) (key_of scratch.old.now) threads.now 0 (clusters_of clusters.old) }
+    ensures lined { linings clusters.new ≡ relined scratch.old.before scratch.old.now scratch.old.last threads.now 0 (linings clusters.old) }
     ensures before { scratch.new.before ≡ scratch.old.before }
     ensures now { scratch.new.now ≡ scratch.old.now }
+    ensures touched { scratch.new.touched ≡ scratch.old.touched }
     ensures last { scratch.new.last ≡ scratch.old.last }
     ensures threads { scratch.new.threads ≡ scratch.old.threads }
 {
@@ -134,21 +139,27 @@ fn settle_all(clusters: &mut Items<ClusterPart>, scratch: &mut Scratch, threads:
     }
 }
 
-/// Settles a state after a change, where `scratch.before` says how the threads stood before it and
-/// `scratch.last` which go last. Then `scratch.before` says how they stand now.
+/// Settles a state after a change, where `scratch.before` says how the threads stood before it,
+/// `scratch.last` which go last, and `scratch.touched` which may stand otherwise or go last. Then
+/// `scratch.before` says how they stand now. It costs what the touched threads do.
 pub fn settle_core(core: &mut Core, scratch: &mut Scratch)
     requires places { length core.old.threads ≡ 64 }
     requires before { length scratch.old.before ≡ 64 }
-    requires now { length scratch.old.now ≡ 64 }
+    requires now { scratch.old.now ≡ scratch.old.before }
+    requires touched { AreTouched scratch.old.touched scratch.old.before (standings (plain_of core.old)) scratch.old.last }
     requires clusters { length core.old.clusters ≤ 4 }
     requires lines { AllSettleable scratch.old.before core.old.threads 0 (clusters_of core.old.clusters) }
+    requires keyed { AllKeyed (key_of scratch.old.before) (linings core.old.clusters) }
+    requires numbered { AreNumbered 0 0 (linings core.old.clusters) }
     ensures core { plain_of core.new ≡ settle_by scratch.old.before (plain_of core.old) scratch.old.last }
     ensures before { scratch.new.before ≡ standings (plain_of core.new) }
-    ensures size { length scratch.new.now ≡ 64 }
+    ensures now { scratch.new.now ≡ standings (plain_of core.new) }
+    ensures keyed { AllKeyed (key_of scratch.new.before) (linings core.new.clusters) }
+    ensures numbered { AreNumbered 0 0 (linings core.new.clusters) }
     ensures last { scratch.new.last ≡ scratch.old.last }
     ensures threads { scratch.new.threads ≡ scratch.old.threads }
 {
-    note_all(&mut scratch.now, core);
+    note_some(&mut scratch.now, core, scratch.touched.as_slice());
     settle_all(&mut core.clusters, scratch, core.threads.as_slice());
-    mem::swap(&mut scratch.before, &mut scratch.now);
+    note_some(&mut scratch.before, core, scratch.touched.as_slice());
 }

@@ -1,5 +1,5 @@
-ghost use Rattle.std.specs.Prelude.{◌≡◌, ◌≤◌, length};
-ghost use Rattle.rk_model.specs.Lists.{nth};
+ghost use Rattle.std.specs.Prelude.{◌≡◌, ◌≤◌, ℕ, length, false};
+ghost use Rattle.rk_model.specs.Lists.{has, nth};
 ghost use Rattle.rk_model.specs.State.{no_thread};
 ghost use Rattle.rk_model.specs.Priorities.{spins as spins_of, is_eligible, prio, home_prio, standing, standings, nth_standing};
 ghost use Rattle.rk_parts.specs.Pieces.{plain_of};
@@ -82,6 +82,19 @@ pub fn note_all(out: &mut Items<Standing>, core: &Core)
 {
     for at in 0..core.threads.len() {
         out.set(at, standing_of(core, ThreadIx::new(at as u8 + 1)));
+    }
+}
+
+/// Notes how each of these threads stands; all others stand as is noted.
+pub fn note_some(out: &mut Items<Standing>, core: &Core, touched: &[ThreadIx])
+    requires places { length core.now.threads ≡ 64 }
+    requires size { length out.old ≡ 64 }
+    requires others { (t : ℕ) → has touched.now t ≡ false → nth_standing (standings (plain_of core.now)) t ≡ nth_standing out.old t }
+    ensures { out.new ≡ standings (plain_of core.now) }
+{
+    for thread in touched {
+        let standing = standing_of(core, *thread);
+        out.set(thread.at() as usize - 1, standing);
     }
 }
 

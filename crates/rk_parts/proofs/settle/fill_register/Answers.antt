@@ -1,25 +1,26 @@
 use Rattle.std.proofs.Common.{◌≡◌, arith, ap, sym, ◌∙◌}
+use Rattle.std.proofs.lemmas.List.{drop_all}
 use Rattle.rk_cluster.specs.Registers.{change_at}
-use Rattle.rk_parts.proofs.Filling.{filled_none, filled_some, filled_other, filled_whole, at_end}
+use Rattle.rk_parts.specs.Registers.{register}
+use Rattle.rk_parts.proofs.Filling.{IsFilling, fill_none, fill_some, fill_other, filled}
 use Rattle.rk_parts.proofs.settle.fill_register.Goals as goal
 use Rattle.rk_parts.proofs.settle.fill_register.Goals.{in-Some, in_default}
 
-pub loop-at-init : goal.loop-at-init
-loop-at-init c = λ t. ap (λ f. f t) c.clear.ensures ∙ filled_none _ _ _ _ _ t
+pub loop-thread-init : goal.loop-thread-init
+loop-thread-init c = fill_none c.args.touched.now c.args.before.now c.args.now.now c.args.last.now c.args.threads.now c.args.cluster (change_at c.clear.new.self) c.requires (λ t. ap (λ f. f t) c.clear.ensures)
 
-pub loop-at-preserved : goal.loop-at-preserved
-loop-at-preserved c =
-    let before = c.args.before.now in
-    let now = c.args.now.now in
-    let last = c.args.last.now in
-    let threads = c.args.threads.now in
-    let found = rw c.new-thread.ensures at c.change_at.ensures in
+pub loop-thread-preserved : goal.loop-thread-preserved
+loop-thread-preserved c =
+    let whole = register c.args.before.now c.args.now.now c.args.last.now c.args.threads.now c.args.cluster in
+    let touched = c.args.touched.now in
+    let i = c.loop-thread.thread-index in
+    let u = c.thread-item.result in
     elim c.match-change_at.branch [
-      | in-Some w ↦ filled_some before now last threads c.args.cluster c.loop-at.at (change_at c.loop-at.out) (change_at c.match-change_at.out) w.in-Some.change c.loop-at.invariant (sym w.in-Some.is ∙ found) (ap change_at w.out-is ∙ (rw c.new-thread.ensures at w.set.ensures))
-      | in_default w ↦ λ t. ap (λ out. change_at out t) w.out-is ∙ filled_other before now last threads c.args.cluster c.loop-at.at (change_at c.loop-at.out) c.loop-at.invariant (sym w.in_default.is ∙ found) t
+      | in-Some w ↦ fill_some whole touched i u (change_at c.loop-thread.out) (change_at c.match-change_at.out) w.in-Some.change (omega arith) c.thread-item.is c.loop-thread.invariant (sym w.in-Some.is ∙ c.change_at.ensures) (ap change_at w.out-is ∙ w.set.ensures)
+      | in_default w ↦ rw w.out-is (fill_other whole touched i u (change_at c.loop-thread.out) (omega arith) c.thread-item.is c.loop-thread.invariant (sym w.in_default.is ∙ c.change_at.ensures))
     ]
 
 pub returns : goal.returns
 returns c =
-    let end : c.loop-at.at ≡ 64 = omega (arith, c.requires.threads) in
-    filled_whole c.args.before.now c.args.now.now c.args.last.now c.args.threads.now c.args.cluster (change_at c.loop-at.out) c.requires.before c.requires.now (at_end _ _ _ _ _ _ _ end c.loop-at.invariant)
+    let whole = register c.args.before.now c.args.now.now c.args.last.now c.args.threads.now c.args.cluster in
+    filled whole _ (change_at c.loop-thread.out) (drop_all c.loop-thread.thread-index c.args.touched.now (omega arith)) c.loop-thread.invariant

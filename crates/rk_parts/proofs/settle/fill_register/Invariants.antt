@@ -1,7 +1,8 @@
-use Rattle.std.proofs.Common.{◌≡◌, ℕ}
+use Rattle.std.proofs.Common.{ℕ, drop}
 use Rattle.rk_cluster.specs.Registers.{change_at}
-use Rattle.rk_parts.proofs.Filling.{filled_up_to}
+use Rattle.rk_parts.specs.Registers.{register}
+use Rattle.rk_parts.proofs.Filling.{IsFilling}
 use Rattle.rk_parts.proofs.settle.fill_register.Given as goal
 
-abbrev pub invariant-loop-at : goal.invariant-loop-at
-invariant-loop-at l = (t : ℕ) → change_at l.out t ≡ filled_up_to l.at l.before l.now l.last l.threads l.cluster t
+abbrev pub invariant-loop-thread : goal.invariant-loop-thread
+invariant-loop-thread l = IsFilling (register l.before l.now l.last l.threads l.cluster) (drop l.thread-index l.touched) (change_at l.out)
