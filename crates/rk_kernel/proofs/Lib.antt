@@ -13,6 +13,7 @@ pub mod Beginning
 pub mod Openings
 pub mod Ready
 pub mod Passing
+pub mod Apart
 pub mod Firings
 pub mod Runs
 pub mod Directing

@@ -1,7 +1,7 @@
 -- The opening state is sound: it is the state with no task yet, changed gently and settled.
-use Rattle.std.proofs.Common.{◌≡◌, add-one, ℕ, zero, suc, ◌+◌, ◌<◌, ◌≤◌, List, [], ◌∷◌, false, ◌==◌, Option, None, length, get_or, length-append, length-take, ◌++◌, take, map, replicate, arith, refl, ap, sym, ◌∙◌}
+use Rattle.std.proofs.Common.{◌≡◌, add-one, ℕ, zero, suc, ◌+◌, ◌<◌, ◌≤◌, List, [], ◌∷◌, false, ◌==◌, Option, None, length, get_or, length-append, length-take, ◌++◌, take, drop, map, replicate, arith, refl, ap, sym, ◌∙◌, append_assoc}
 use Rattle.std.specs.List.{AllByRecursion, range_with_len, slice_set}
-use Rattle.std.proofs.lemmas.List.{length-replicate, length-map, map-append, take_more}
+use Rattle.std.proofs.lemmas.List.{length-replicate, length-map, map-append, take_more, drop_more, map_push}
 use Rattle.std.proofs.lemmas.List.Elements.{All-from_recursion}
 use Rattle.std.proofs.lemmas.Bool.{false≢true}
 use Rattle.rk_model.specs.declared.scenario.Scenario.{Scenario}
@@ -11,6 +11,9 @@ use Rattle.rk_model.specs.declared.state.Thread.{Thread}
 use Rattle.rk_parts.specs.declared.core_state.ClusterPart.{ClusterPart}
 use Rattle.rk_parts.specs.Pieces.{cluster_of, clusters_of}
 use Rattle.rk_model.specs.Lists.{nth, times}
+use Rattle.rk_cluster.specs.Clusters.{Cluster, empty_cluster}
+use Rattle.rk_parts.specs.Pinned.{linings, AllKeyed, AreNumbered}
+use Rattle.rk_kernel.specs.Touching.{made_from}
 use Rattle.rk_model.specs.State.{Plain, no_thread, thread_at}
 use Rattle.rk_model.specs.Priorities.{is_eligible}
 use Rattle.rk_model.specs.Lines.{has_cpu}
@@ -158,3 +161,23 @@ pub made_more : (counts : List ℕ) (i : ℕ) (parts next : List ClusterPart) (p
 made_more counts i parts next part within push is told =
     let more : take (i + 1) counts ≡ take i counts ++ get_or counts i 0 ∷ [] = take_more counts i 0 within in
     ap (λ (ps : List ClusterPart). clusters_of ps) push ∙ map-append cluster_of parts (part ∷ []) ∙ (rw (told, is) refl) ∙ sym (ap (map free_cluster) more ∙ map-append free_cluster (take i counts) (get_or counts i 0 ∷ []))
+
+-- one cluster more is stored
+pub lined_more : (counts : List ℕ) (at first : ℕ) (parts next : List ClusterPart) (part : ClusterPart) (all : List Cluster) → at < length counts → next ≡ parts ++ part ∷ [] → part.lined ≡ empty_cluster at first (get_or counts at 0) →
+    linings parts ++ made_from at first (drop at counts) ≡ all → linings next ++ made_from (at + 1) (first + get_or counts at 0) (drop (at + 1) counts) ≡ all
+lined_more counts at first parts next part all within more made told =
+    let d = drop_more counts at 0 within in
+    let m : linings (parts ++ part ∷ []) ≡ linings parts ++ part.lined ∷ [] = map_push (λ (p : ClusterPart). p.lined) parts part in
+    rw (more, m, append_assoc, made) (rw d at told)
+
+-- clusters that were made are numbered,
+pub numbered_made : (c p : ℕ) (counts : List ℕ) → AreNumbered c p (made_from c p counts)
+numbered_made c p [] = tt
+numbered_made c p (count ∷ counts) =
+    let size : length (empty_cluster c p count).cpus ≡ count = length-replicate count None in
+    (refl, refl, rw size (numbered_made (c + 1) (p + count) counts))
+
+-- and their lines have no place
+pub keyed_made : (key : ℕ → ℕ) (c p : ℕ) (counts : List ℕ) → AllKeyed key (made_from c p counts)
+keyed_made key c p [] = tt
+keyed_made key c p (count ∷ counts) = (tt, keyed_made key (c + 1) (p + count) counts)

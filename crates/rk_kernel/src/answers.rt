@@ -9,6 +9,7 @@ ghost use Rattle.rk_model.specs.Ops.{result_var as var_of};
 ghost use Rattle.rk_model.specs.Outcomes.{begin_wait as begun, begin_limited, end_wait as ended, stored, go_on as gone, concluded, status_of, out_of, last_of};
 ghost use Rattle.rk_kernel.specs.Calls.{IsActing};
 ghost use Rattle.rk_parts.specs.Pieces.{plain_of};
+ghost use Rattle.rk_parts.specs.Pinned.{linings};
 
 use rk_model::{Answer, Armer, Op, Reply, Status, Thread, ThreadIx, Wait};
 use rk_parts::core_state::{Core, Threads};
@@ -63,7 +64,8 @@ fn store(vars: [u32; 8], var: Option<u8>, value: u32) -> [u32; 8]
 fn go_on(core: &mut Core, caller: ThreadIx, out: u32)
     requires line { (thread_at (plain_of core.old) caller).line ≤ 1001 }
     requires bodies { AreRunnable core.old.scenario.bodies }
-    ensures { plain_of core.new ≡ gone (plain_of core.old) caller out }
+    ensures next { plain_of core.new ≡ gone (plain_of core.old) caller out }
+    ensures lined { linings core.new.clusters ≡ linings core.old.clusters }
 {
     let thread = thread_of(core.threads.as_slice(), caller);
     let var = result_var(core.scenario.op_at(thread.body, thread.line));
@@ -91,6 +93,7 @@ pub(crate) fn finish(core: &mut Core, last: &mut Threads, caller: ThreadIx, answ
     ensures status { result.status ≡ status_of answer }
     ensures out { result.out ≡ out_of answer }
     ensures last { last.new ≡ option_to_list (last_of answer) }
+    ensures lined { linings core.new.clusters ≡ linings core.old.clusters }
 {
     match answer {
         Answer::Refused(status) => {
@@ -111,7 +114,8 @@ pub(crate) fn finish(core: &mut Core, last: &mut Threads, caller: ThreadIx, answ
 
 /// Lets the caller begin to wait.
 fn begin_wait(core: &mut Core, caller: ThreadIx, wait: Wait)
-    ensures { plain_of core.new ≡ begun (plain_of core.old) caller wait }
+    ensures next { plain_of core.new ≡ begun (plain_of core.old) caller wait }
+    ensures lined { linings core.new.clusters ≡ linings core.old.clusters }
 {
     let thread = thread_of(core.threads.as_slice(), caller);
     let waiting = Thread {
@@ -124,7 +128,8 @@ fn begin_wait(core: &mut Core, caller: ThreadIx, wait: Wait)
 /// Lets the caller begin to wait with a limit of so many ticks, or with 0 without a limit.
 pub(crate) fn wait_for(core: &mut Core, caller: ThreadIx, wait: Wait, ticks: u32)
     requires { IsActing (plain_of core.old) caller }
-    ensures { plain_of core.new ≡ begin_limited (plain_of core.old) caller wait ticks }
+    ensures next { plain_of core.new ≡ begin_limited (plain_of core.old) caller wait ticks }
+    ensures lined { linings core.new.clusters ≡ linings core.old.clusters }
 {
     let home = thread_of(core.threads.as_slice(), caller).home;
     let due = u64::from(core.present) + u64::from(ticks);
@@ -137,7 +142,8 @@ pub(crate) fn wait_for(core: &mut Core, caller: ThreadIx, wait: Wait, ticks: u32
 /// Ends the wait of a thread with a reply, and cancels its timer.
 pub(crate) fn end_wait(core: &mut Core, thread: ThreadIx, reply: Reply)
     requires { (thread_at (plain_of core.old) thread).home < length core.old.clusters }
-    ensures { plain_of core.new ≡ ended (plain_of core.old) thread reply }
+    ensures next { plain_of core.new ≡ ended (plain_of core.old) thread reply }
+    ensures lined { linings core.new.clusters ≡ linings core.old.clusters }
 {
     let waiting = thread_of(core.threads.as_slice(), thread);
     cancel_timer(core, waiting.home, Armer::Thread(thread));

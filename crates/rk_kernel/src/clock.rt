@@ -8,16 +8,18 @@ ghost use Rattle.rk_parts.specs.Firing.{due_now, FiresFirst};
 ghost use Rattle.rk_kernel.specs.Noted.{IsNoted};
 ghost use Rattle.rk_parts.specs.Pieces.{plain_of};
 ghost use Rattle.rk_model.specs.Limits.{AreRunnable};
+ghost use Rattle.rk_parts.specs.Pinned.{linings};
+ghost use Rattle.rk_kernel.specs.Touching.{touched_by};
 ghost use Rattle.rk_kernel.specs.Sound.{IsSound, IsInBounds};
 ghost use Rattle.rk_kernel.specs.Step.{IsTick};
 
 use crate::answers::end_wait;
 use crate::steps::CoreTick;
 use rk_model::{Armer, Items, Reply, Scenario, Status, Thread, ThreadIx, Wait};
-use rk_parts::core_state::{Core, Scratch};
+use rk_parts::core_state::{Core, Scratch, Threads};
 use rk_parts::places::{arrive, least_of, runs_on_some};
 use rk_parts::settle::settle_core;
-use rk_parts::standing::{note_all, thread_of};
+use rk_parts::standing::thread_of;
 use rk_parts::timers::take_due_of;
 use std::mem;
 
@@ -78,16 +80,15 @@ fn charge_into(out: &mut Items<Thread>, core: &Core)
 /// A tick passes, before any timer fires.
 fn pass_tick(core: &mut Core, scratch: &mut Scratch)
     requires sound { IsSound (plain_of core.old) }
-    requires noted { IsNoted (plain_of core.old) scratch.old }
+    requires noted { IsNoted core.old scratch.old }
     requires below { core.old.present < core.old.scenario.horizon }
     ensures passed { plain_of core.new ≡ pass (plain_of core.old) }
     ensures sound { IsSound (plain_of core.new) }
-    ensures noted { IsNoted (plain_of core.new) scratch.new }
+    ensures noted { IsNoted core.new scratch.new }
 {
     charge_into(&mut scratch.threads, core);
     mem::swap(&mut core.threads, &mut scratch.threads);
     core.present += 1;
-    note_all(&mut scratch.before, core);
 }
 
 /// What a wait ends with when its timer fires.
@@ -105,7 +106,8 @@ fn timer_reply(wait: Option<Wait>) -> Reply
 /// A timer fires: the wait of its thread ends.
 fn ring(core: &mut Core, who: Armer)
     requires { (t : ℕ) → (thread_at (plain_of core.old) t).home < length core.old.clusters }
-    ensures { plain_of core.new ≡ rung (plain_of core.old) who }
+    ensures next { plain_of core.new ≡ rung (plain_of core.old) who }
+    ensures lined { linings core.new.clusters ≡ linings core.old.clusters }
 {
     match who {
         Armer::Thread(thread) => {
@@ -115,21 +117,32 @@ fn ring(core: &mut Core, who: Armer)
     }
 }
 
+/// Puts the thread whose timer fires into a list.
+fn touch_rung(out: &mut Threads, who: Armer)
+    ensures { out.new ≡ touched_by who }
+{
+    out.clear();
+    match who {
+        Armer::Thread(thread) => out.push(thread),
+    }
+}
+
 /// The first timer of a cluster that is due now fires, and the state settles; says whether there was one.
 fn fire_first(core: &mut Core, scratch: &mut Scratch, cluster: usize) -> bool
     requires cluster { cluster < length core.old.clusters }
     requires sound { IsSound (plain_of core.old) }
-    requires noted { IsNoted (plain_of core.old) scratch.old }
+    requires noted { IsNoted core.old scratch.old }
     ensures fires { FiresFirst cluster (due_now (plain_of core.old) cluster) (plain_of core.old) result (plain_of core.new) }
     ensures clusters { length core.new.clusters ≡ length core.old.clusters }
     ensures sound { IsSound (plain_of core.new) }
-    ensures noted { IsNoted (plain_of core.new) scratch.new }
+    ensures noted { IsNoted core.new scratch.new }
 {
     match take_due_of(core, cluster) {
         None => false,
         Some(timer) => {
             ring(core, timer.who);
             scratch.last.clear();
+            touch_rung(&mut scratch.touched, timer.who);
             settle_core(core, scratch);
             true
         }
@@ -140,11 +153,11 @@ fn fire_first(core: &mut Core, scratch: &mut Scratch, cluster: usize) -> bool
 fn fire_cluster_timers(core: &mut Core, scratch: &mut Scratch, cluster: usize)
     requires cluster { cluster < length core.old.clusters }
     requires sound { IsSound (plain_of core.old) }
-    requires noted { IsNoted (plain_of core.old) scratch.old }
+    requires noted { IsNoted core.old scratch.old }
     ensures fired { plain_of core.new ≡ fire_cluster (plain_of core.old) cluster }
     ensures clusters { length core.new.clusters ≡ length core.old.clusters }
     ensures sound { IsSound (plain_of core.new) }
-    ensures noted { IsNoted (plain_of core.new) scratch.new }
+    ensures noted { IsNoted core.new scratch.new }
 {
     'firing: while fire_first(core, scratch, cluster) {}
 }
@@ -152,10 +165,10 @@ fn fire_cluster_timers(core: &mut Core, scratch: &mut Scratch, cluster: usize)
 /// All timers that are due now fire, cluster by cluster.
 fn fire_all_timers(core: &mut Core, scratch: &mut Scratch)
     requires sound { IsSound (plain_of core.old) }
-    requires noted { IsNoted (plain_of core.old) scratch.old }
+    requires noted { IsNoted core.old scratch.old }
     ensures fired { plain_of core.new ≡ fire_all (plain_of core.old) }
     ensures sound { IsSound (plain_of core.new) }
-    ensures noted { IsNoted (plain_of core.new) scratch.new }
+    ensures noted { IsNoted core.new scratch.new }
 {
     let count = core.clusters.len();
     for cluster in 0..count {
@@ -166,10 +179,10 @@ fn fire_all_timers(core: &mut Core, scratch: &mut Scratch)
 /// A step of the clock.
 pub(crate) fn tick_core(core: &mut Core, scratch: &mut Scratch) -> CoreTick
     requires sound { IsSound (plain_of core.old) }
-    requires noted { IsNoted (plain_of core.old) scratch.old }
+    requires noted { IsNoted core.old scratch.old }
     ensures step { IsTick (plain_of core.old) result (plain_of core.new) }
     ensures sound { IsSound (plain_of core.new) }
-    ensures noted { IsNoted (plain_of core.new) scratch.new }
+    ensures noted { IsNoted core.new scratch.new }
 {
     if let Some(cpu) = least_of(core) {
         return CoreTick::NotYet(cpu);

@@ -4,6 +4,7 @@ ghost use Rattle.rk_model.specs.Steps.{action};
 ghost use Rattle.rk_kernel.specs.Does.{Does};
 ghost use Rattle.rk_kernel.specs.Calls.{IsActing};
 ghost use Rattle.rk_parts.specs.Pieces.{plain_of};
+ghost use Rattle.rk_parts.specs.Pinned.{linings};
 
 use crate::tasks::{
     create_task, delete_task, exit_task, ident_task, resume_task, set_priority, start_task,
@@ -16,7 +17,8 @@ use rk_parts::standing::thread_of;
 
 /// Lets the caller return from a directive that waited.
 fn return_task(core: &mut Core, caller: ThreadIx)
-    ensures { plain_of core.new ≡ put_thread (plain_of core.old) caller (record (thread_at (plain_of core.old) caller) { finished = None }) }
+    ensures next { plain_of core.new ≡ put_thread (plain_of core.old) caller (record (thread_at (plain_of core.old) caller) { finished = None }) }
+    ensures lined { linings core.new.clusters ≡ linings core.old.clusters }
 {
     let thread = thread_of(core.threads.as_slice(), caller);
     let returned = Thread {
@@ -30,7 +32,7 @@ fn return_task(core: &mut Core, caller: ThreadIx)
 #[tactic(auto, unfolding(rk_model::specs::Steps::action))]
 pub(crate) fn perform(core: &mut Core, caller: ThreadIx) -> Answer
     requires { IsActing (plain_of core.old) caller }
-    ensures { Does (action (plain_of core.old) caller) result (plain_of core.old) (plain_of core.new) }
+    ensures { Does (action (plain_of core.old) caller) result core.old core.new }
 {
     let thread = thread_of(core.threads.as_slice(), caller);
     match thread.finished {

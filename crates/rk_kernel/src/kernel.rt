@@ -34,7 +34,7 @@ impl Model for Parts {
 
     ghost view = { λ p. plain_of p.core };
 
-    ghost invariant = { λ p. IsSound (plain_of p.core) × AreManned (plain_of p.core) × IsNoted (plain_of p.core) p.scratch };
+    ghost invariant = { λ p. IsSound (plain_of p.core) × AreManned (plain_of p.core) × IsNoted p.core p.scratch };
 }
 
 /// The parts of the opening state of a scenario. It takes all the room that the run needs.

@@ -1,5 +1,5 @@
 ghost use Rattle.std.specs.Prelude.{◌≡◌, ◌<◌, ◌≤◌, ◌+◌, ℕ, length, [], IfOk, map};
-ghost use Rattle.std.specs.List.{AllByRecursion};
+ghost use Rattle.std.specs.List.{AllByRecursion, range_with_len};
 ghost use Rattle.rk_model.specs.declared.scenario.Init.{Init as InitLine};
 ghost use Rattle.rk_model.specs.Names.{no_names};
 ghost use Rattle.rk_model.specs.Histories.{begun, places, free_cluster, vacant, begun_names, opening};
@@ -7,10 +7,13 @@ ghost use Rattle.rk_model.specs.Limits.{AreRunnable, IsWithinLimits};
 ghost use Rattle.rk_model.specs.Scenarios.{cpus_in};
 ghost use Rattle.rk_kernel.specs.Noted.{IsNoted};
 ghost use Rattle.rk_parts.specs.Pieces.{cluster_of, clusters_of, plain_of};
+ghost use Rattle.rk_parts.specs.Pinned.{linings};
+ghost use Rattle.rk_cluster.specs.Clusters.{empty_cluster};
+ghost use Rattle.rk_kernel.specs.Touching.{made_from};
 ghost use Rattle.rk_kernel.specs.Sound.{IsSound};
 
 use rk_cluster::{Cluster, Moves};
-use rk_model::{Body, Init, Items, Life, NoMemory, Prio, Scenario, Standing, Thread};
+use rk_model::{Body, Init, Items, Life, NoMemory, Prio, Scenario, Standing, Thread, ThreadIx};
 use rk_parts::core_state::{ClusterPart, Core, Scratch, Threads, Timers};
 use rk_parts::places::arrive;
 use rk_parts::settle::settle_core;
@@ -57,7 +60,8 @@ fn copy_scenario(alloc: Global, scenario: &Scenario) -> Result<Scenario, NoMemor
 fn make_cluster(alloc: Global, number: u8, first: u8, count: u8) -> Result<ClusterPart, NoMemory>
     requires number { number < 4 }
     requires cpus { first + count ≤ 8 }
-    ensures { IfOk result (λ part. cluster_of part ≡ free_cluster count) }
+    ensures made { IfOk result (λ part. cluster_of part ≡ free_cluster count) }
+    ensures lined { IfOk result (λ part. part.lined ≡ empty_cluster number first count) }
 {
     Ok(ClusterPart {
         lined: Cluster::new(alloc, number, first, count)?,
@@ -69,7 +73,8 @@ fn make_cluster(alloc: Global, number: u8, first: u8, count: u8) -> Result<Clust
 fn make_clusters(alloc: Global, counts: &[u8]) -> Result<Vec<ClusterPart>, NoMemory>
     requires clusters { length counts.now ≤ 4 }
     requires cpus { cpus_in counts.now ≤ 8 }
-    ensures { IfOk result (λ v. clusters_of v.items ≡ map free_cluster counts.now) }
+    ensures made { IfOk result (λ v. clusters_of v.items ≡ map free_cluster counts.now) }
+    ensures lined { IfOk result (λ v. linings v.items ≡ made_from 0 0 counts.now) }
 {
     let mut clusters = Vec::new(alloc);
     let mut first = 0;
@@ -91,7 +96,8 @@ fn make_places(alloc: Global) -> Result<Items<Thread>, NoMemory>
 /// The state in which there is no task yet.
 fn make_vacant(alloc: Global, scenario: &Scenario) -> Result<Core, NoMemory>
     requires { IsWithinLimits scenario.now }
-    ensures { IfOk result (λ core. plain_of core ≡ vacant scenario.now) }
+    ensures vacant { IfOk result (λ core. plain_of core ≡ vacant scenario.now) }
+    ensures lined { IfOk result (λ core. linings core.clusters ≡ made_from 0 0 scenario.now.clusters) }
 {
     let clusters = make_clusters(alloc, scenario.clusters.as_slice())?;
     Ok(Core {
@@ -156,10 +162,21 @@ pub(crate) fn make_scratch(alloc: Global) -> Result<Scratch, NoMemory>
     Ok(Scratch {
         before: Items::from_vec(vec![in alloc; none; 64]?),
         now: Items::from_vec(vec![in alloc; none; 64]?),
+        touched: Threads::new(alloc)?,
         last: Threads::new(alloc)?,
         moves: Moves::new(alloc)?,
         threads: make_places(alloc)?,
     })
+}
+
+/// Puts all threads into a list.
+fn touch_all(out: &mut Threads)
+    ensures { out.new ≡ range_with_len 1 64 }
+{
+    out.clear();
+    for before in 0..64 {
+        out.push(ThreadIx::new(before + 1));
+    }
 }
 
 /// The state at opening.
@@ -175,10 +192,12 @@ pub(crate) fn make_opening(
     requires threads { length scratch.old.threads ≡ 64 }
     ensures opening { IfOk result (λ core. plain_of core ≡ opening scenario.now) }
     ensures sound { IfOk result (λ core. IsSound (plain_of core)) }
-    ensures noted { IfOk result (λ core. IsNoted (plain_of core) scratch.new) }
+    ensures noted { IfOk result (λ core. IsNoted core scratch.new) }
 {
     let mut core = make_vacant(alloc, scenario)?;
     note_all(&mut scratch.before, &core);
+    note_all(&mut scratch.now, &core);
+    touch_all(&mut scratch.touched);
     start_all(&mut core.threads, scenario);
     name_all(&mut core.tasks, scenario.inits.as_slice());
     settle_core(&mut core, scratch);

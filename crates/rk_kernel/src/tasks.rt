@@ -6,6 +6,7 @@ ghost use Rattle.rk_model.specs.Tasks.{is_live, task_of, task_named, task_create
 ghost use Rattle.rk_ids.specs.Objects.{IsSplit};
 ghost use Rattle.rk_kernel.specs.Does.{Does};
 ghost use Rattle.rk_parts.specs.Pieces.{plain_of};
+ghost use Rattle.rk_parts.specs.Pinned.{linings};
 ghost use Rattle.rk_model.specs.Limits.{AreRunnable};
 ghost use Rattle.rk_kernel.specs.Calls.{IsActing};
 
@@ -40,7 +41,7 @@ fn find_by_bits(core: &Core, caller: ThreadIx, bits: u32) -> Option<ThreadIx>
 }
 
 /// The task that a caller asks for; `None` exactly where the id is unknown.
-fn find_task(core: &Core, caller: ThreadIx, id: Target) -> Option<ThreadIx>
+pub(crate) fn find_task(core: &Core, caller: ThreadIx, id: Target) -> Option<ThreadIx>
     ensures { result ≡ task_named (plain_of core.now) caller id }
 {
     match id {
@@ -55,7 +56,8 @@ fn find_task(core: &Core, caller: ThreadIx, id: Target) -> Option<ThreadIx>
 
 /// Puts a dormant task at an index, with the caller's home and this base priority.
 fn put_dormant(core: &mut Core, caller: ThreadIx, index: ThreadIx, base: Prio)
-    ensures { plain_of core.new ≡ put_thread (plain_of core.old) index (record no_thread { life = Dormant; home = (thread_at (plain_of core.old) caller).home; base = base }) }
+    ensures next { plain_of core.new ≡ put_thread (plain_of core.old) index (record no_thread { life = Dormant; home = (thread_at (plain_of core.old) caller).home; base = base }) }
+    ensures lined { linings core.new.clusters ≡ linings core.old.clusters }
 {
     let home = thread_of(core.threads.as_slice(), caller).home;
     let made = Thread {
@@ -71,7 +73,7 @@ fn put_dormant(core: &mut Core, caller: ThreadIx, index: ThreadIx, base: Prio)
 /// It refuses with `INVALID_NAME` where the name is 0, with `INVALID_PRIORITY` where the priority
 /// isn't from 1 to 255, and with `TOO_MANY` where 64 tasks live.
 pub(crate) fn create_task(core: &mut Core, caller: ThreadIx, name: Name, prio: u32) -> Answer
-    ensures { Does (task_create (plain_of core.old) caller name.bits prio) result (plain_of core.old) (plain_of core.new) }
+    ensures { Does (task_create (plain_of core.old) caller name.bits prio) result core.old core.new }
 {
     if name.bits == 0 {
         Answer::Refused(Status::InvalidName)
@@ -92,7 +94,7 @@ pub(crate) fn create_task(core: &mut Core, caller: ThreadIx, name: Name, prio: u
 /// refuses with `INVALID_NAME` where there is no such task.
 pub(crate) fn ident_task(core: &mut Core, name: Name) -> Answer
     requires { IsSplit core.old.tasks }
-    ensures { Does (task_ident (plain_of core.old) name.bits) result (plain_of core.old) (plain_of core.new) }
+    ensures { Does (task_ident (plain_of core.old) name.bits) result core.old core.new }
 {
     match core.tasks.find(name) {
         None => Answer::Refused(Status::InvalidName),
@@ -110,7 +112,8 @@ fn is_dormant(life: Life) -> bool
 /// Starts a task at the first line of a body.
 fn start(core: &mut Core, task: ThreadIx, body: u8)
     requires { AreRunnable core.old.scenario.bodies }
-    ensures { plain_of core.new ≡ with_started (plain_of core.old) task body }
+    ensures next { plain_of core.new ≡ with_started (plain_of core.old) task body }
+    ensures lined { linings core.new.clusters ≡ linings core.old.clusters }
 {
     let thread = thread_of(core.threads.as_slice(), task);
     let begun = Thread {
@@ -126,7 +129,7 @@ fn start(core: &mut Core, task: ThreadIx, body: u8)
 /// with `INVALID_ID` where the task is unknown, and with `INCORRECT_STATE` where it isn't dormant.
 pub(crate) fn start_task(core: &mut Core, caller: ThreadIx, id: Target, body: u8) -> Answer
     requires { AreRunnable core.old.scenario.bodies }
-    ensures { Does (task_start (plain_of core.old) caller id body) result (plain_of core.old) (plain_of core.new) }
+    ensures { Does (task_start (plain_of core.old) caller id body) result core.old core.new }
 {
     match find_task(core, caller, id) {
         None => Answer::Refused(Status::InvalidId),
@@ -143,7 +146,8 @@ pub(crate) fn start_task(core: &mut Core, caller: ThreadIx, id: Target, body: u8
 
 /// Says of a task whether it is suspended from now on.
 fn set_suspended(core: &mut Core, task: ThreadIx, suspended: bool)
-    ensures { plain_of core.new ≡ with_suspended (plain_of core.old) task suspended }
+    ensures next { plain_of core.new ≡ with_suspended (plain_of core.old) task suspended }
+    ensures lined { linings core.new.clusters ≡ linings core.old.clusters }
 {
     let thread = thread_of(core.threads.as_slice(), task);
     let changed = Thread {
@@ -156,7 +160,7 @@ fn set_suspended(core: &mut Core, task: ThreadIx, suspended: bool)
 /// `task.suspend` (`rtems_task_suspend`): suspends a task, whose wait and timer go on. It refuses with
 /// `INVALID_ID` where the task is unknown, and with `ALREADY_SUSPENDED` where it is suspended.
 pub(crate) fn suspend_task(core: &mut Core, caller: ThreadIx, id: Target) -> Answer
-    ensures { Does (task_suspend (plain_of core.old) caller id) result (plain_of core.old) (plain_of core.new) }
+    ensures { Does (task_suspend (plain_of core.old) caller id) result core.old core.new }
 {
     match find_task(core, caller, id) {
         None => Answer::Refused(Status::InvalidId),
@@ -174,7 +178,7 @@ pub(crate) fn suspend_task(core: &mut Core, caller: ThreadIx, id: Target) -> Ans
 /// `task.resume` (`rtems_task_resume`): lets a suspended task go on. It refuses with `INVALID_ID` where
 /// the task is unknown, and with `INCORRECT_STATE` where it isn't suspended.
 pub(crate) fn resume_task(core: &mut Core, caller: ThreadIx, id: Target) -> Answer
-    ensures { Does (task_resume (plain_of core.old) caller id) result (plain_of core.old) (plain_of core.new) }
+    ensures { Does (task_resume (plain_of core.old) caller id) result core.old core.new }
 {
     match find_task(core, caller, id) {
         None => Answer::Refused(Status::InvalidId),
@@ -191,7 +195,8 @@ pub(crate) fn resume_task(core: &mut Core, caller: ThreadIx, id: Target) -> Answ
 
 /// Sets the base priority of a task.
 fn set_base(core: &mut Core, task: ThreadIx, base: Prio)
-    ensures { plain_of core.new ≡ with_base (plain_of core.old) task base }
+    ensures next { plain_of core.new ≡ with_base (plain_of core.old) task base }
+    ensures lined { linings core.new.clusters ≡ linings core.old.clusters }
 {
     let thread = thread_of(core.threads.as_slice(), task);
     put(core, task, Thread { base, ..thread });
@@ -202,7 +207,7 @@ fn set_base(core: &mut Core, task: ThreadIx, base: Prio)
 /// that. It refuses with `INVALID_ID` where the task is unknown, and with `INVALID_PRIORITY` where the
 /// priority is above 255.
 pub(crate) fn set_priority(core: &mut Core, caller: ThreadIx, id: Target, prio: u32) -> Answer
-    ensures { Does (task_set_priority (plain_of core.old) caller id prio) result (plain_of core.old) (plain_of core.new) }
+    ensures { Does (task_set_priority (plain_of core.old) caller id prio) result core.old core.new }
 {
     match find_task(core, caller, id) {
         None => Answer::Refused(Status::InvalidId),
@@ -225,7 +230,8 @@ pub(crate) fn set_priority(core: &mut Core, caller: ThreadIx, id: Target, prio: 
 fn remove_task(core: &mut Core, task: ThreadIx)
     requires home { (thread_at (plain_of core.old) task).home < length core.old.clusters }
     requires lives { lives core.old.tasks task ≡ true }
-    ensures { plain_of core.new ≡ without_task (plain_of core.old) task }
+    ensures next { plain_of core.new ≡ without_task (plain_of core.old) task }
+    ensures lined { linings core.new.clusters ≡ linings core.old.clusters }
 {
     let home = thread_of(core.threads.as_slice(), task).home;
     cancel_timer(core, home, Armer::Thread(task));
@@ -241,7 +247,7 @@ fn remove_task(core: &mut Core, task: ThreadIx)
 /// go on. It refuses with `INVALID_ID` where the task is unknown.
 pub(crate) fn delete_task(core: &mut Core, caller: ThreadIx, id: Target) -> Answer
     requires { IsActing (plain_of core.old) caller }
-    ensures { Does (task_delete (plain_of core.old) caller id) result (plain_of core.old) (plain_of core.new) }
+    ensures { Does (task_delete (plain_of core.old) caller id) result core.old core.new }
 {
     match find_task(core, caller, id) {
         None => Answer::Refused(Status::InvalidId),
@@ -258,7 +264,7 @@ pub(crate) fn delete_task(core: &mut Core, caller: ThreadIx, id: Target) -> Answ
 
 /// `task.exit` (`rtems_task_exit`): ends the task.
 pub(crate) fn exit_task(core: &mut Core, caller: ThreadIx) -> Answer
-    ensures { Does (task_exit (plain_of core.old) caller) result (plain_of core.old) (plain_of core.new) }
+    ensures { Does (task_exit (plain_of core.old) caller) result core.old core.new }
 {
     let thread = thread_of(core.threads.as_slice(), caller);
     let ended = Thread {
@@ -272,7 +278,7 @@ pub(crate) fn exit_task(core: &mut Core, caller: ThreadIx) -> Answer
 /// `task.wake_after` (`rtems_task_wake_after`): the caller sleeps for so many ticks, and yields with 0.
 pub(crate) fn wake_after(core: &mut Core, caller: ThreadIx, ticks: u32) -> Answer
     requires { IsActing (plain_of core.old) caller }
-    ensures { Does (task_wake_after (plain_of core.old) caller ticks) result (plain_of core.old) (plain_of core.new) }
+    ensures { Does (task_wake_after (plain_of core.old) caller ticks) result core.old core.new }
 {
     if ticks == 0 {
         Answer::Done(Status::Successful, 0, Some(caller))

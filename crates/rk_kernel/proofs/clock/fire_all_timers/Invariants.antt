@@ -8,7 +8,7 @@ use Rattle.rk_kernel.proofs.clock.fire_all_timers.Given as goal
 abbrev pub invariant-loop-cluster : goal.invariant-loop-cluster
 invariant-loop-cluster l = record {
   sound : IsSound (plain_of l.core);
-  noted : IsNoted (plain_of l.core) l.scratch;
+  noted : IsNoted l.core l.scratch;
   clusters : length l.core.clusters ≡ length l.fn.core.clusters;
   told : fire_from (plain_of l.core) l.cluster (length l.fn.core.clusters - l.cluster) ≡ fire_all (plain_of l.fn.core);
 }

@@ -9,7 +9,7 @@ use Rattle.rk_kernel.proofs.clock.fire_cluster_timers.Given as goal
 abbrev pub invariant-firing : goal.invariant-firing
 invariant-firing l = record {
   sound : IsSound (plain_of l.core);
-  noted : IsNoted (plain_of l.core) l.scratch;
+  noted : IsNoted l.core l.scratch;
   clusters : length l.core.clusters ≡ length l.fn.core.clusters;
   told : fire_each (plain_of l.core) l.cluster (due_now (plain_of l.core) l.cluster) ≡ fire_cluster (plain_of l.fn.core) l.cluster;
 }
