@@ -9,7 +9,7 @@ use Rattle.rk_model.specs.Lists.{has}
 use Rattle.rk_model.proofs.Counts.{has-append}
 use Rattle.rk_model.specs.Lines.{rank, ranked_from, nth_urgent, most_urgent, has_cpu, kept, filled, assigned}
 use Rattle.rk_line.specs.declared.line.Place.{Place}
-use Rattle.rk_line.specs.Places.{threads, prio_in}
+use Rattle.rk_line.specs.Places.{prio_in}
 use Rattle.rk_cluster.specs.declared.moves.Change.{Change}
 use Rattle.rk_cluster.specs.Registers.{no_changes}
 use Rattle.rk_cluster.specs.Clusters.{Cluster, runners_of, AreAssigned, lined_up, settled}

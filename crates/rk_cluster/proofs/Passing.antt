@@ -224,8 +224,7 @@ fall_on marks rest rest' done at t changes change line0 line line' marked is siz
     let below = falling_below marks rest done at changes line0 line is few there in
     let over = falls_over marks rest done (at + 1) changes line0 line marked is (omega (arith, below)) (λ i h. none i (omega (arith, h))) in
     let n : 64 - at ≡ suc (64 - (at + 1)) = omega (arith, few) in
-    let c = read_change changes at change (omega (arith, size, few)) read in
-    (
+    let c = read_change changes at change (omega (arith, size, few)) read in (
       record {
         within = omega (arith, few);
         left = λ i h. others i (omega (arith, h, few)) (λ q. omega (arith, q, h)) ∙ is.left i (omega (arith, h, below));
@@ -362,8 +361,7 @@ rise_on marks rest rest' done at t changes change line0 line line' marked is siz
     let above = rising_above marks rest done at changes line0 line is there in
     let over = rises_over marks rest done at changes line0 line marked is above (omega (arith, few)) none in
     let c = read_change changes at change (omega (arith, size, few)) read in
-    let added : line' ≡ line ++ end_place (at + 1) (change_at changes (at + 1)) = rw (e, c) at next in
-    (
+    let added : line' ≡ line ++ end_place (at + 1) (change_at changes (at + 1)) = rw (e, c) at next in (
       record {
         within = omega (arith, few);
         below = λ i h. ⊎_elim (λ less. others i (omega (arith, less, few)) (λ q. omega (arith, q, less)) ∙ none i less) (λ same. let q : i ≡ at = omega (arith, same, h) in rw q gone) (cases_lt i at);

@@ -1,9 +1,8 @@
 -- A register of a cluster as it is written, one touched thread after another.
-use Rattle.std.proofs.Common.{◌≡◌, ℕ, zero, suc, ◌+◌, ◌<◌, List, [], ◌∷◌, Bool, true, false, cond, not, ◌==◌, ◌||◌, nat_lt, ◌⊎◌, inl, inr, ⊎_elim, Option, Some, None, length, drop, get_or, arith, refl, ap, sym, ◌∙◌}
+use Rattle.std.proofs.Common.{◌≡◌, ℕ, ◌+◌, ◌<◌, List, [], Bool, true, false, cond, not, ◌==◌, nat_lt, ◌⊎◌, inl, inr, ⊎_elim, Option, Some, None, length, drop, get_or, arith, refl, ap, sym, ◌∙◌}
 use Rattle.std.proofs.lemmas.Bool.{false≢true}
 use Rattle.std.proofs.lemmas.Bool.Decides.{nat_tests}
 use Rattle.rk_model.specs.declared.settling.Standing.{Standing}
-use Rattle.rk_model.specs.declared.settling.Move.{Move}
 use Rattle.rk_model.specs.declared.settling.Move.TheVariants.{Stay, Leave, ToEnd, ToFront}
 use Rattle.rk_model.specs.declared.state.Thread.{Thread}
 use Rattle.rk_model.specs.Lists.{has, nth}

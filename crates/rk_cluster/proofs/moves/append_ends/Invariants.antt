@@ -1,4 +1,4 @@
-use Rattle.std.proofs.Common.{ℕ, ◌-◌}
+use Rattle.std.proofs.Common.{◌-◌}
 use Rattle.rk_cluster.proofs.Passing.{IsRising}
 use Rattle.rk_cluster.proofs.moves.append_ends.Given as goal
 

@@ -1,4 +1,3 @@
-use Rattle.std.proofs.Common.{ℕ}
 use Rattle.rk_cluster.proofs.Passing.{IsFalling}
 use Rattle.rk_cluster.proofs.moves.apply_but_ends.Given as goal
 

@@ -1,8 +1,8 @@
-use Rattle.std.proofs.Common.{◌≡◌, arith, ap, sym, ◌∙◌}
+use Rattle.std.proofs.Common.{arith, ap, sym, ◌∙◌}
 use Rattle.std.proofs.lemmas.List.{drop_all}
 use Rattle.rk_cluster.specs.Registers.{change_at}
 use Rattle.rk_parts.specs.Registers.{register}
-use Rattle.rk_parts.proofs.Filling.{IsFilling, fill_none, fill_some, fill_other, filled}
+use Rattle.rk_parts.proofs.Filling.{fill_none, fill_some, fill_other, filled}
 use Rattle.rk_parts.proofs.settle.fill_register.Goals as goal
 use Rattle.rk_parts.proofs.settle.fill_register.Goals.{in-Some, in_default}
 

@@ -1,4 +1,4 @@
-use Rattle.std.proofs.Common.{ℕ, drop}
+use Rattle.std.proofs.Common.{drop}
 use Rattle.rk_cluster.specs.Registers.{change_at}
 use Rattle.rk_parts.specs.Registers.{register}
 use Rattle.rk_parts.proofs.Filling.{IsFilling}

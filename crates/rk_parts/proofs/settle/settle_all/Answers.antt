@@ -1,4 +1,4 @@
-use Rattle.std.proofs.Common.{◌≡◌, ◌<◌, length, arith, sym, ◌∙◌, length-set}
+use Rattle.std.proofs.Common.{◌≡◌, ◌<◌, length, arith, ◌∙◌, length-set}
 use Rattle.rk_model.specs.Settling.{moves, key_of, settled_cluster}
 use Rattle.rk_cluster.specs.Clusters.{settled}
 use Rattle.rk_parts.specs.Pieces.{cluster_of}

@@ -1,9 +1,7 @@
-use Rattle.std.proofs.Common.{◌≡◌, ℕ, length, ap, sym, ◌∙◌, subst}
-use Rattle.rk_model.specs.declared.settling.Standing.{Standing}
+use Rattle.std.proofs.Common.{◌≡◌, ap, sym, ◌∙◌}
 use Rattle.rk_model.specs.Priorities.{standings, nth_standing}
-use Rattle.rk_model.specs.Settling.{key_of}
 use Rattle.rk_parts.specs.Pieces.{plain_of, clusters_of}
-use Rattle.rk_parts.specs.Pinned.{linings, AllKeyed, AreNumbered, relined}
+use Rattle.rk_parts.specs.Pinned.{linings, relined}
 use Rattle.rk_parts.proofs.Clusters.{numbered_relined, keyed_relined}
 use Rattle.rk_parts.proofs.Settling.{standings-with_clusters}
 use Rattle.rk_parts.proofs.settle.settle_core.Goals as goal

@@ -1,4 +1,4 @@
-use Rattle.std.proofs.Common.{arith, ◌∙◌}
+use Rattle.std.proofs.Common.{arith}
 use Rattle.std.proofs.lemmas.List.{drop_all}
 use Rattle.rk_parts.specs.Pieces.{plain_of}
 use Rattle.rk_parts.proofs.Noting.{noted_some, all_noted, set_size}
