@@ -36,7 +36,7 @@ least_stands name (object ∷ objects) least is = by (object.name.bits == name) 
   by false h among = let more = among least h in grind (arith, nat_tests, more)
 
 -- what it is to be this least index, or none
-abbrev Least : ℕ → List Named → Option ℕ → Type 0
+abbrev pub Least : ℕ → List Named → Option ℕ → Type 0
 Least name live None = AllByRecursion (λ (object : Named). has_name name object ≡ false) live
 Least name live (Some index) = (has (indices (filter (has_name name) live)) index ≡ true) × AllByRecursion (λ (object : Named). has_name name object ≡ true → index ≤ object.index) live
 
@@ -68,20 +68,6 @@ one_more name object live true e (Some j) rest =
 one_more name object live false e None rest = (e, rest)
 one_more name object live false e (Some j) rest = (rw e rest.0, (λ h. absurd (false≢true (sym e ∙ h)), rest.1))
 
-least_is : (name : ℕ) (live : List Named) → Least name live (least_named name live)
+pub least_is : (name : ℕ) (live : List Named) → Least name live (least_named name live)
 least_is name [] = tt
 least_is name (object ∷ live) = one_more name object live (has_name name object) refl (least_named name live) (least_is name live)
-
--- What was found is the id of the live object of least index that has the name,
-pub found_least : (result : Option Id) (name : ℕ) (all : Objects) → result ≡ optional_id all.class (least_named name all.names.live) → IfSome result (λ id. IsLeastNamed id.bits name all)
-found_least result name all is = rw is (by (least_named name all.names.live) (least_is name all.names.live)) where
-  by : (o : Option ℕ) → Least name all.names.live o → IfSome (optional_id all.class o) (λ id. IsLeastNamed id.bits name all)
-  by None least = tt
-  by (Some index) least = record { index = index; id = refl; named = least.0; least = least.1 }
-
--- and nothing was found where no live object has it.
-pub found_none : (result : Option Id) (name : ℕ) (all : Objects) → result ≡ optional_id all.class (least_named name all.names.live) → IfNone result (NoneIsNamed name all)
-found_none result name all is = rw is (by (least_named name all.names.live) (least_is name all.names.live)) where
-  by : (o : Option ℕ) → Least name all.names.live o → IfNone (optional_id all.class o) (NoneIsNamed name all)
-  by None least = least
-  by (Some index) least = tt

@@ -49,9 +49,11 @@ live_index all (Some index) = if lives_at all index then Some index else None
 abbrev pub has_name : ℕ → Named → Bool
 has_name name object = object.name.bits == name
 
--- The bits are the id of a live object of the name, and no live object of less index has it.
+-- The bits are the id of a live object of the name, whose index is from 1 to 64, and no live object of less index has it.
 pub record IsLeastNamed (bits name : ℕ) (all : Objects) : Type 0 where
   pub index : ℕ
+  pub low : 1 ≤ index
+  pub high : index ≤ 64
   pub id : bits ≡ id_of all.class index
   pub named : has (indices (filter (has_name name) all.names.live)) index ≡ true
   pub least : AllByRecursion (λ (object : Named). has_name name object ≡ true → index ≤ object.index) all.names.live

@@ -89,7 +89,8 @@ impl Ids {
 
     /// The id of the live object of least index that has the name, if there is one.
     fn id_named(&self, name: Name) -> Option<Id>
-        ensures { result ≡ optional_id self.now.class (least_named name.bits self.now.names.live) }
+        ensures id { result ≡ optional_id self.now.class (least_named name.bits self.now.names.live) }
+        ensures split { IsSplit self.now.names }
     {
         let index = least_index(self.live.as_slice(), name)?;
         Some(Id::of(self.class, index))

@@ -35,7 +35,7 @@ use Rattle.rk_parts.proofs.Noting.{length-standings, standing_at}
 use Rattle.rk_parts.proofs.Taking.{index_in-id_of}
 use Rattle.rk_kernel.specs.Touching.{target_in, target_of, touched_by}
 use Rattle.rk_kernel.specs.Sound.{IsSound, IsGentle}
-use Rattle.rk_kernel.proofs.Indices.{nth-with_other}
+use Rattle.rk_model.proofs.Indices.{nth-with_other}
 use Rattle.rk_kernel.proofs.Naming.{first_free}
 use Rattle.rk_kernel.proofs.Passing.{passed_steady, length-charge_from, spins_alike}
 

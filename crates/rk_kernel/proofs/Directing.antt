@@ -15,7 +15,7 @@ use Rattle.rk_kernel.proofs.Bounds.{bounds_at, bounds_in, line_in}
 use Rattle.rk_model.specs.Limits.{AreRunnable}
 use Rattle.rk_kernel.proofs.Gentle.{gentle_same, gentle_put, gentle_go_on, Stays}
 use Rattle.rk_kernel.proofs.Fair.{IsFair, fair_changed, fair_after}
-use Rattle.rk_kernel.proofs.Indices.{nth-with_same}
+use Rattle.rk_model.proofs.Indices.{nth-with_same}
 use Rattle.rk_kernel.proofs.Tasking.{create_fair, ident_fair, start_fair, suspend_fair, resume_fair, set_priority_fair, delete_fair, exit_fair, wake_after_fair}
 
 -- each directive is fair

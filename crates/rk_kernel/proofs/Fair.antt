@@ -21,7 +21,7 @@ use Rattle.rk_kernel.specs.Calls.{IsActing, IsCaller}
 use Rattle.rk_kernel.specs.Laws.{is_refused}
 use Rattle.rk_kernel.specs.Sound.{IsInBounds, IsGentle, waits_in}
 use Rattle.rk_kernel.proofs.Bounds.{bounds_at}
-use Rattle.rk_kernel.proofs.Indices.{nth-with_same}
+use Rattle.rk_model.proofs.Indices.{nth-with_same}
 use Rattle.rk_kernel.proofs.Timing.{timers_of}
 use Rattle.rk_kernel.proofs.Gentle.{gentle_same, gentle_put, gentle_arm, Stays, gentle_go_on}
 

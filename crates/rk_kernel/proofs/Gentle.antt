@@ -17,7 +17,7 @@ use Rattle.rk_model.specs.Tasks.{is_live}
 use Rattle.rk_parts.specs.Named.{AreNamed}
 use Rattle.rk_parts.proofs.Tests.{and_front, and_back, equal_test}
 use Rattle.rk_kernel.specs.Sound.{IsSound, IsInBounds, IsGentle, waits_in, is_waiting, is_in_call}
-use Rattle.rk_kernel.proofs.Indices.{nth-with_other, nth-with_kept, nth-with_holds, length-with_nth, All-with_nth}
+use Rattle.rk_model.proofs.Indices.{nth-with_other, nth-with_kept, nth-with_holds, length-with_nth, All-with_nth}
 use Rattle.rk_kernel.proofs.Bounds.{bounds_in, arrived_bounds}
 use Rattle.rk_kernel.proofs.Timing.{keeps_same, keeps_timers, timed_sound, timed_kept, AllUnarmed, timed_unarmed, timed_fewer, unarmed_without, times-without_timer, none-without_timer, timed_armed}
 use Rattle.rk_kernel.proofs.Naming.{named_put}

@@ -1,4 +1,3 @@
-pub mod Indices
 pub mod Naming
 pub mod Bounds
 pub mod Timing

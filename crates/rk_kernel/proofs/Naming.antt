@@ -14,7 +14,7 @@ use Rattle.rk_model.proofs.Counts.{same_either_way, times-append, has_times}
 use Rattle.rk_ids.specs.Objects.{IsSplit}
 use Rattle.rk_ids.proofs.Splits.{live_within, split_taken, split_given}
 use Rattle.rk_parts.specs.Named.{AreNamed}
-use Rattle.rk_kernel.proofs.Indices.{nth-with_same, nth-with_other, nth-with_kept}
+use Rattle.rk_model.proofs.Indices.{nth-with_same, nth-with_other, nth-with_kept}
 
 -- to put back a thread that lives as before
 pub named_put : (tasks : Names) (threads : List Thread) (t : ℕ) (thread : Thread) → is_live thread.life ≡ is_live (nth no_thread threads t).life → AreNamed tasks threads → AreNamed tasks (with_nth threads t thread)

@@ -17,7 +17,7 @@ use Rattle.rk_model.specs.Ticks.{tick}
 use Rattle.rk_kernel.specs.Calls.{IsActing}
 use Rattle.rk_kernel.specs.Sound.{IsSound}
 use Rattle.rk_kernel.specs.Laws.{is_call, is_refused, is_refusal, refused_thread, RefusalsChangeTheCallerAlone}
-use Rattle.rk_kernel.proofs.Indices.{nth-with_kept, length-with_nth}
+use Rattle.rk_model.proofs.Indices.{nth-with_kept, length-with_nth}
 use Rattle.rk_kernel.proofs.Callers.{acting_of}
 use Rattle.rk_kernel.proofs.Directing.{op_fair}
 use Rattle.rk_kernel.proofs.Fair.{op_of, IsFair}

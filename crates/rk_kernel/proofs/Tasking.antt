@@ -19,7 +19,7 @@ use Rattle.rk_model.specs.Outcomes.{arrived}
 use Rattle.rk_model.specs.Tasks.{is_live, live_task, task_named, with_task, task_create, task_ident, is_dormant, with_started, task_start, with_suspended, task_suspend, task_resume, task_set_priority, without_task, task_delete, task_exit, task_wake_after}
 use Rattle.rk_kernel.specs.Calls.{IsActing, IsCaller}
 use Rattle.rk_kernel.specs.Sound.{IsSound, IsInBounds, IsGentle, is_waiting, is_in_call}
-use Rattle.rk_kernel.proofs.Indices.{nth-with_other, length-with_nth, All-with_nth}
+use Rattle.rk_model.proofs.Indices.{nth-with_other, length-with_nth, All-with_nth}
 use Rattle.rk_kernel.proofs.Bounds.{bounds_at, blank_bounds, arrived_bounds}
 use Rattle.rk_kernel.proofs.Timing.{timed_sound, timed_kept, keeps_same}
 use Rattle.rk_kernel.proofs.Naming.{first_free, named_made, named_removed}

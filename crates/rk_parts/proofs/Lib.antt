@@ -3,10 +3,10 @@ pub mod Leading
 pub mod Scans
 pub mod Pieces
 pub mod Cancelling
+pub mod Standings
 pub mod Noting
 pub mod Clusters
 pub mod Settling
-pub mod Taking
 pub mod Keys
 pub mod Registering
 pub mod Filling

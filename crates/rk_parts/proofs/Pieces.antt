@@ -6,10 +6,11 @@ use Rattle.rk_model.specs.declared.state.Armed.{Armed}
 use Rattle.rk_model.specs.declared.state.Armer.{Armer}
 use Rattle.rk_model.specs.State.{no_cluster, cluster_at, put_cluster}
 use Rattle.rk_model.specs.Timers.{arm, cancel, take_due, without_due, without_timer}
+use Rattle.rk_cluster.specs.Clusters.{Cluster}
 use Rattle.rk_parts.specs.declared.core_state.ClusterPart.{ClusterPart}
 use Rattle.rk_parts.specs.declared.core_state.Core.{Core}
 use Rattle.rk_parts.specs.Pieces.{cluster_of, plain_of}
-use Rattle.rk_parts.specs.Pinned.{linings}
+use Rattle.rk_parts.specs.Pinned.{Stored, stored}
 use Rattle.std.proofs.Math.Seq.{map-set_same}
 
 -- the cluster of a number is that of its part
@@ -39,7 +40,8 @@ pub put_cancelled : (core : Core) (c : ℕ) (who : Armer) (part : ClusterPart) (
     plain_of (record core { clusters = slice_set core.clusters c (record part { timers = timers }) }) ≡ cancel (plain_of core) c who
 put_cancelled core c who part timers h is e = put_timers core c part timers h is ∙ rw (e, cluster_at-plain_of core c part h is) refl
 
--- a part with the same stored cluster is put back: the stored clusters are as before
-pub same_linings : (parts : List ClusterPart) (i : ℕ) (part next : ClusterPart) → i < length parts → part ≡ get_or parts i part → next.lined ≡ part.lined → linings (slice_set parts i next) ≡ linings parts
-same_linings parts i part next within is same =
-    map-set_same (λ (p : ClusterPart). p.lined) parts i next part (same ∙ ap (λ (p : ClusterPart). p.lined) is)
+-- a part with the same stored cluster is put back: what is stored is as before
+pub same_stored : (core : Core) (i : ℕ) (part next : ClusterPart) → i < length core.clusters → part ≡ get_or core.clusters i part → next.lined ≡ part.lined → stored (record core { clusters = slice_set core.clusters i next }) ≡ stored core
+same_stored core i part next within is same =
+    ap (λ (cs : List Cluster). (let x : Stored = record { clusters = cs; stood = core.threads.stood } in x))
+    (map-set_same (λ (p : ClusterPart). p.lined) core.clusters i next part (same ∙ ap (λ (p : ClusterPart). p.lined) is))

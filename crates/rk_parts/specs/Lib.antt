@@ -1,6 +1,7 @@
+pub mod Threads
 pub mod Pieces
 pub mod Registers
 pub mod Pinned
-pub mod Settleable
+pub mod Settled
 pub mod Named
 pub mod Firing

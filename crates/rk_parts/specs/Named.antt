@@ -1,20 +1,28 @@
--- The names and indices of the tasks of a state.
-use Rattle.std.specs.Prelude.{ℕ, ◌≡◌, List, [], ◌∷◌, Option, Some, None, if◌then◌else◌}
+-- The names and indices of the objects of a state.
+use Rattle.std.specs.Prelude.{ℕ, ◌≡◌, List, [], ◌∷◌, false, Option, Some, None, if◌then◌else◌}
+use Rattle.rk_model.specs.declared.ids.Class.{Class}
 use Rattle.rk_model.specs.declared.state.Thread.{Thread}
 use Rattle.rk_model.specs.Lists.{nth, times}
-use Rattle.rk_model.specs.Names.{Names, indices, taken}
+use Rattle.rk_model.specs.Names.{Names, Table, names_of, with_names, indices, taken}
 use Rattle.rk_model.specs.State.{no_thread}
-use Rattle.rk_model.specs.Tasks.{is_live}
+use Rattle.rk_model.specs.Tasks.{has_begun, begun_in}
 use Rattle.rk_ids.specs.Objects.{IsSplit}
 
--- The first of these free indices was taken for a task of this name; or there is none, and nothing changed.
-abbrev pub Takes : List ℕ → Option ℕ → ℕ → Names → Names → Type 0
-Takes [] result name old new = (result ≡ None) × (new ≡ old)
-Takes (index ∷ free) result name old new = (result ≡ Some index) × (new ≡ taken old index free name)
+-- The first of these free indices was taken for an object of this name; or there is none, and nothing changed.
+abbrev pub Takes : List ℕ → ℕ → Option ℕ → Names → Names → Type 0
+Takes [] name result old new = (result ≡ None) × (new ≡ old)
+Takes (index ∷ free) name result old new = (result ≡ Some index) × (new ≡ taken old index free name)
 
--- Names and threads agree.
-pub record AreNamed (tasks : Names) (threads : List Thread) : Type 0 where
-  -- each index from 1 to 64 is that of one live task or is free once, and no other index is
-  pub split : IsSplit tasks
-  -- an index is that of a live task, once, exactly where the thread's life has begun
-  pub live : (t : ℕ) → times t (indices tasks.live) ≡ (if is_live (nth no_thread threads t).life then 1 else 0)
+-- it is so of the names of a class, and no other class changed
+abbrev pub TakesIn : List ℕ → Class → ℕ → Option ℕ → Table → Table → Type 0
+TakesIn [] class name result old new = (result ≡ None) × (new ≡ old)
+TakesIn (index ∷ free) class name result old new = (result ≡ Some index) × (new ≡ with_names class (taken (names_of class old) index free name) old)
+
+-- Names and objects agree.
+pub record AreNamed (table : Table) (threads : List Thread) : Type 0 where
+  -- in each class, each index from 1 to 64 is that of one live object or is free once, and no other index is
+  pub split : (class : Class) → IsSplit (names_of class table)
+  -- an index is that of a live object, once, exactly where the object has begun
+  pub live : (class : Class) (index : ℕ) → times index (indices (names_of class table).live) ≡ (if begun_in threads class index then 1 else 0)
+  -- where no task has begun, there is no thread
+  pub blank : (index : ℕ) → has_begun (nth no_thread threads index).life ≡ false → nth no_thread threads index ≡ no_thread

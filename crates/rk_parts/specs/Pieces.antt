@@ -15,4 +15,4 @@ clusters_of parts = map cluster_of parts
 
 -- the state that the pieces stand for
 abbrev pub plain_of : Core → Plain
-plain_of core = record { scenario = core.scenario; present = core.present; clusters = clusters_of core.clusters; threads = core.threads; tasks = core.tasks }
+plain_of core = record { scenario = core.scenario; present = core.present; clusters = clusters_of core.clusters; threads = core.threads.places; table = core.table }

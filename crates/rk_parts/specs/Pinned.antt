@@ -1,17 +1,38 @@
--- What the stored clusters of a running kernel hold beside what its state says: their numbers, and the priorities in their lines.
-use Rattle.std.specs.Prelude.{ℕ, ◌+◌, ◌≡◌, List, [], ◌∷◌, false, map, length}
+-- What a running kernel stores beside what its state says: how the threads stood, the numbers of its clusters, and the priorities in their lines.
+use Rattle.std.specs.Prelude.{ℕ, ◌+◌, ◌≡◌, ◌≤◌, List, [], ◌∷◌, map, length}
 use Rattle.rk_model.specs.declared.settling.Standing.{Standing}
-use Rattle.rk_model.specs.declared.state.Thread.{Thread}
+use Rattle.rk_model.specs.declared.state.Armed.{Armed}
 use Rattle.rk_model.specs.Lists.{has}
-use Rattle.rk_model.specs.Priorities.{nth_standing}
+use Rattle.rk_model.specs.State.{ClusterState}
+use Rattle.rk_model.specs.Priorities.{standings, nth_standing}
+use Rattle.rk_model.specs.Settling.{belongs}
 use Rattle.rk_line.specs.declared.line.Place.{Place}
 use Rattle.rk_cluster.specs.Clusters.{Cluster, settled}
 use Rattle.rk_parts.specs.declared.core_state.ClusterPart.{ClusterPart}
+use Rattle.rk_parts.specs.declared.core_state.Core.{Core}
+use Rattle.rk_parts.specs.Pieces.{clusters_of, plain_of}
 use Rattle.rk_parts.specs.Registers.{register}
 
 -- the clusters of the parts, as they are stored
 abbrev pub linings : List ClusterPart → List Cluster
 linings parts = map (λ (part : ClusterPart). part.lined) parts
+
+-- the timers of the parts
+abbrev pub timers_in : List ClusterPart → List (List Armed)
+timers_in parts = map (λ (part : ClusterPart). part.timers) parts
+
+-- the clusters as they are stored, and how the threads stood when the state settled last
+pub record Stored : Type 0 where
+  pub clusters : List Cluster
+  pub stood : List Standing
+
+-- what a running kernel stores
+abbrev pub stored : Core → Stored
+stored core = record { clusters = linings core.clusters; stood = core.threads.stood }
+
+-- the priority by which threads that stand so are ranked
+abbrev pub key_of : List Standing → ℕ → ℕ
+key_of stood t = (nth_standing stood t).prio
 
 -- each place of a line has the priority that a function gives its thread
 abbrev pub IsKeyed : (ℕ → ℕ) → List Place → Type 0
@@ -29,11 +50,24 @@ AreNumbered c p [] = Unit {0}
 AreNumbered c p (cluster ∷ clusters) = (cluster.number ≡ c) × (cluster.first ≡ p) × AreNumbered (c + 1) (p + length cluster.cpus) clusters
 
 -- the clusters from a number on, each settled by its register
-abbrev pub relined : List Standing → List Standing → List ℕ → List Thread → ℕ → List Cluster → List Cluster
-relined before now last threads c [] = []
-relined before now last threads c (cluster ∷ clusters) = settled (register before now last threads c) cluster ∷ relined before now last threads (c + 1) clusters
+abbrev pub relined : List Standing → List Standing → List ℕ → ℕ → List Cluster → List Cluster
+relined before now last c [] = []
+relined before now last c (cluster ∷ clusters) = settled (register before now last c) cluster ∷ relined before now last (c + 1) clusters
 
--- All threads but these stand as before, and none but these goes last.
-pub record AreTouched (touched : List ℕ) (before now : List Standing) (last : List ℕ) : Type 0 where
-  pub still : (t : ℕ) → has touched t ≡ false → nth_standing now t ≡ nth_standing before t
-  pub kept : (t : ℕ) → has touched t ≡ false → has last t ≡ false
+-- the lines of the clusters from a number on have exactly the threads that belonged there
+abbrev pub AllHeld : List Standing → ℕ → List ClusterState → Type 0
+AllHeld stood c [] = Unit {0}
+AllHeld stood c (cluster ∷ clusters) = ((t : ℕ) → has cluster.line t ≡ belongs c (nth_standing stood t)) × AllHeld stood (c + 1) clusters
+
+-- A running kernel that can settle: its lines have the threads that belonged there when it settled last, with the priorities that they had then, and its clusters, of which there are at most four, and their processors are numbered from 0.
+pub record CanSettle (core : Core) : Type 0 where
+  pub few : length core.clusters ≤ 4
+  pub lines : AllHeld core.threads.stood 0 (clusters_of core.clusters)
+  pub keyed : AllKeyed (key_of core.threads.stood) (linings core.clusters)
+  pub numbered : AreNumbered 0 0 (linings core.clusters)
+
+-- What a running kernel stores fits its state: how its threads stand, their priorities in the lines, and the numbers of clusters and processors.
+pub record IsNoted (core : Core) : Type 0 where
+  pub stood : core.threads.stood ≡ standings (plain_of core)
+  pub keyed : AllKeyed (key_of core.threads.stood) (linings core.clusters)
+  pub numbered : AreNumbered 0 0 (linings core.clusters)

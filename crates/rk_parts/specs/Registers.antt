@@ -1,13 +1,10 @@
 -- The registers by which clusters settle.
-use Rattle.std.specs.Prelude.{ℕ, List, Bool, Option, Some, None, ◌==◌, if◌then◌else◌}
+use Rattle.std.specs.Prelude.{ℕ, List, Bool, Option, Some, None, if◌then◌else◌}
 use Rattle.rk_model.specs.declared.settling.Standing.{Standing}
 use Rattle.rk_model.specs.declared.settling.Move.{Move}
 use Rattle.rk_model.specs.declared.settling.Move.TheVariants as asked
-use Rattle.rk_model.specs.declared.state.Thread.{Thread}
-use Rattle.rk_model.specs.Lists.{nth}
-use Rattle.rk_model.specs.State.{no_thread}
 use Rattle.rk_model.specs.Priorities.{nth_standing}
-use Rattle.rk_model.specs.Settling.{moves}
+use Rattle.rk_model.specs.Settling.{belongs, moves}
 use Rattle.rk_cluster.specs.declared.moves.Change.{Change}
 use Rattle.rk_cluster.specs.declared.moves.Change.TheVariants.{Leave, ToEnd, ToFront}
 
@@ -18,7 +15,6 @@ change_by stood asked.Leave prio = if stood then Some Leave else None
 change_by stood asked.ToEnd prio = Some (ToEnd prio)
 change_by stood asked.ToFront prio = Some (ToFront prio)
 
--- The register of a cluster: for each thread of that home that moves what settling asks of it, with the priority that it has now.
-abbrev pub register : List Standing → List Standing → List ℕ → List Thread → ℕ → ℕ → Option Change
-register before now last threads c t =
-    if (nth no_thread threads t).home == c then change_by (nth_standing before t).eligible (moves before now last t) (nth_standing now t).prio else None
+-- The register of a cluster: for each thread that moves there what settling asks of it, with the priority that it has now.
+abbrev pub register : List Standing → List Standing → List ℕ → ℕ → ℕ → Option Change
+register before now last c t = change_by (belongs c (nth_standing before t)) (moves before now last c t) (nth_standing now t).prio

@@ -1,9 +1,7 @@
-use crate::task_ids::TaskIds;
+use crate::table::Table;
+use crate::threads::Threads;
 use rk_cluster::{Cluster, Moves};
-use rk_model::{Armed, Bounded, Items, Scenario, Standing, Thread, ThreadIx};
-
-/// A list of threads.
-pub type Threads = Bounded<ThreadIx, 64>;
+use rk_model::{Armed, Bounded, Items, Scenario};
 
 /// The armed timers of a cluster's threads, of which each has at most one.
 pub type Timers = Bounded<Armed, 64>;
@@ -15,6 +13,8 @@ pub struct ClusterPart {
     pub lined: Cluster,
     /// The armed timers, in order of arming.
     pub timers: Timers,
+    /// Room for what settling does to the threads of the cluster.
+    pub moves: Moves,
 }
 
 /// The state of the running kernel, in its pieces.
@@ -24,25 +24,7 @@ pub struct Core {
     /// The present tick.
     pub present: u32,
     pub clusters: Items<ClusterPart>,
-    /// The places of 64 threads.
-    pub threads: Items<Thread>,
-    /// The names and the indices of the tasks.
-    pub tasks: TaskIds,
-}
-
-/// Room for what settling notes and makes.
-#[derive(Debug, Drop)]
-pub struct Scratch {
-    /// How each thread stood before the change.
-    pub before: Items<Standing>,
-    /// How each thread stands after it; between the steps the same.
-    pub now: Items<Standing>,
-    /// The threads of which some may stand otherwise after the change, or go last; no other does.
-    pub touched: Threads,
-    /// The threads that yielded or had their base priority set.
-    pub last: Threads,
-    /// What settling does to the threads of a cluster.
-    pub moves: Moves,
-    /// The threads as a tick makes them anew.
-    pub threads: Items<Thread>,
+    pub threads: Threads,
+    /// The names and the indices of the objects.
+    pub table: Table,
 }

@@ -1,9 +1,11 @@
 //! The parts of the running kernel, and what is done on them.
 #![tactic(auto)]
 
+pub mod arrival;
 pub mod core_state;
-pub mod places;
+pub mod processors;
 pub mod settle;
 pub mod standing;
-pub mod task_ids;
+pub mod table;
+pub mod threads;
 pub mod timers;

@@ -1,42 +1,46 @@
-ghost use Rattle.std.specs.Prelude.{◌≡◌, ◌≤◌, ℕ, length, Option, None, false};
+//! Settling: lines follow what the marked threads ask, and processors the lines.
+
+ghost use Rattle.std.specs.Prelude.{◌≡◌, ◌≤◌, map, length};
+ghost use Rattle.std.specs.Option.{option_to_list};
 ghost use Rattle.rk_model.specs.Lists.{has};
-ghost use Rattle.rk_model.specs.Priorities.{standings};
-ghost use Rattle.rk_model.specs.Settling.{move_of, moves, key_of, settled_cluster, settled_from, settle_by};
-ghost use Rattle.rk_parts.specs.Pieces.{plain_of, cluster_of, clusters_of};
-ghost use Rattle.rk_cluster.specs.Registers.{change_at};
-ghost use Rattle.rk_parts.specs.Registers.{change_by, register};
+ghost use Rattle.rk_model.specs.Settling.{is_cluster, move_of, settle_by};
 ghost use Rattle.rk_cluster.specs.Clusters.{settled};
-ghost use Rattle.rk_parts.specs.Pinned.{linings, relined, IsKeyed, AllKeyed, AreNumbered, AreTouched};
-ghost use Rattle.rk_parts.specs.Settleable.{IsSettleable, AllSettleable};
+ghost use Rattle.rk_cluster.specs.Registers.{change_at};
+ghost use Rattle.rk_parts.specs.Threads.{own_standing};
+ghost use Rattle.rk_parts.specs.Pieces.{plain_of};
+ghost use Rattle.rk_parts.specs.Registers.{change_by, register};
+ghost use Rattle.rk_parts.specs.Pinned.{linings, timers_in, relined, CanSettle, IsNoted};
 
-use crate::core_state::{ClusterPart, Core, Scratch};
-use crate::standing::{note_some, nth_of, thread_of};
+use crate::core_state::{ClusterPart, Core};
+use crate::standing::own;
+use crate::threads::Threads;
 use rk_cluster::{Change, Moves};
-use rk_model::{Items, Move, Prio, Standing, Thread, ThreadIx};
+use rk_model::{Items, Move, Prio, Standing, ThreadIx};
 
-/// What settling asks of a thread that stood and stands like this.
-#[tactic(auto, unfolding(rk_model::specs::Settling::move_of))]
-fn compare(before: Standing, now: Standing, last: bool) -> Move
-    ensures { result ≡ move_of before now last }
+/// Whether this is the number of a cluster.
+fn is_number(cluster: u8, number: Option<u8>) -> bool
+    ensures { result ≡ is_cluster cluster number }
 {
-    if !now.eligible {
+    match number {
+        None => false,
+        Some(found) => found == cluster,
+    }
+}
+
+/// What settling asks in a cluster of a thread that stood and stands like this.
+#[tactic(auto, unfolding(rk_model::specs::Settling::move_of))]
+fn compare(cluster: u8, before: &Standing, now: &Standing, last: bool) -> Move
+    ensures { result ≡ move_of cluster before.now now.now last }
+{
+    if !is_number(cluster, now.cluster) {
         Move::Leave
-    } else if !before.eligible || now.prio.level() < before.prio.level() || last {
+    } else if !is_number(cluster, before.cluster) || now.prio.level() < before.prio.level() || last {
         Move::ToEnd
     } else if before.prio.level() < now.prio.level() {
         Move::ToFront
     } else {
         Move::Stay
     }
-}
-
-/// What settling asks of the thread of an index.
-fn move_at(before: &[Standing], now: &[Standing], last: &[ThreadIx], thread: ThreadIx) -> Move
-    ensures { result ≡ moves before.now now.now last.now thread }
-{
-    let stood = nth_of(before, thread);
-    let stands = nth_of(now, thread);
-    compare(stood, stands, last.contains(&thread))
 }
 
 /// The change of a thread with this move and this priority, which stood in the line before or
@@ -52,114 +56,79 @@ fn change_for(stood: bool, asked: Move, prio: Prio) -> Option<Change>
     }
 }
 
-/// The change of the thread of an index in the register of a cluster.
-fn change_at(
-    before: &[Standing],
-    now: &[Standing],
-    last: &[ThreadIx],
-    threads: &[Thread],
-    cluster: u8,
-    thread: ThreadIx,
-) -> Option<Change>
-    ensures { result ≡ register before.now now.now last.now threads.now cluster thread }
+/// Whether the thread is the one that goes last, if one does.
+fn goes_last(last: &Option<ThreadIx>, thread: ThreadIx) -> bool
+    ensures { result ≡ has (option_to_list last.now) thread }
 {
-    if thread_of(threads, thread).home == cluster {
-        let asked = move_at(before, now, last, thread);
-        let prio = nth_of(now, thread).prio;
-        change_for(nth_of(before, thread).eligible, asked, prio)
-    } else {
-        None
+    match last {
+        None => false,
+        Some(found) => *found == thread,
     }
 }
 
-/// Writes the register of a cluster, in which none but the threads of `touched` have a change.
-fn fill_register(
-    out: &mut Moves,
-    touched: &[ThreadIx],
-    before: &[Standing],
-    now: &[Standing],
-    last: &[ThreadIx],
-    threads: &[Thread],
+/// The change of a thread in the register of a cluster.
+#[tactic(auto, using(crate::proofs::Standings::standing_of), unfolding(rk_model::specs::Settling::moves))]
+fn change_of(
+    threads: &Threads,
+    last: &Option<ThreadIx>,
     cluster: u8,
-)
-    requires { AreTouched touched.now before.now now.now last.now }
-    ensures { change_at out.new ≡ register before.now now.now last.now threads.now cluster }
+    thread: ThreadIx,
+) -> Option<Change>
+    ensures { result ≡ register threads.now.stood (map own_standing threads.now.places) (option_to_list last.now) cluster thread }
+{
+    let before = threads.stood(thread);
+    let now = own(threads.get(thread));
+    let asked = compare(cluster, &before, &now, goes_last(last, thread));
+    change_for(is_number(cluster, before.cluster), asked, now.prio)
+}
+
+/// Writes the register of a cluster.
+fn fill_register(out: &mut Moves, threads: &Threads, last: &Option<ThreadIx>, cluster: u8)
+    ensures { change_at out.new ≡ register threads.now.stood (map own_standing threads.now.places) (option_to_list last.now) cluster }
 {
     out.clear();
-    for thread in touched {
-        if let Some(change) = change_at(before, now, last, threads, cluster, *thread) {
+    let marked = threads.marked();
+    for thread in marked {
+        if let Some(change) = change_of(threads, last, cluster, *thread) {
+            out.set(*thread, change);
+        }
+    }
+    if let Some(thread) = last {
+        if let Some(change) = change_of(threads, last, cluster, *thread) {
             out.set(*thread, change);
         }
     }
 }
 
 /// Settles a cluster.
-fn settle_cluster(cluster: &mut ClusterPart, scratch: &mut Scratch, threads: &[Thread], number: u8)
-    requires touched { AreTouched scratch.old.touched scratch.old.before scratch.old.now scratch.old.last }
-    requires places { length threads.now ≡ 64 }
-    requires lines { IsSettleable scratch.old.before threads.now number (cluster_of cluster.old) }
-    requires keyed { IsKeyed (key_of scratch.old.before) cluster.old.lined.line }
-    ensures cluster { cluster_of cluster.new ≡ settled_cluster (moves scratch.old.before scratch.old.now scratch.old.last) (key_of scratch.old.now) threads.now number (cluster_of cluster.old) }
-    ensures lined { cluster.new.lined ≡ settled (register scratch.old.before scratch.old.now scratch.old.last threads.now number) cluster.old.lined }
-    ensures before { scratch.new.before ≡ scratch.old.before }
-    ensures now { scratch.new.now ≡ scratch.old.now }
-    ensures touched { scratch.new.touched ≡ scratch.old.touched }
-    ensures last { scratch.new.last ≡ scratch.old.last }
-    ensures threads { scratch.new.threads ≡ scratch.old.threads }
+fn settle_cluster(cluster: &mut ClusterPart, threads: &Threads, last: &Option<ThreadIx>, number: u8)
+    ensures lined { cluster.new.lined ≡ settled (register threads.now.stood (map own_standing threads.now.places) (option_to_list last.now) number) cluster.old.lined }
+    ensures timers { cluster.new.timers ≡ cluster.old.timers }
 {
-    fill_register(
-        &mut scratch.moves,
-        scratch.touched.as_slice(),
-        scratch.before.as_slice(),
-        scratch.now.as_slice(),
-        scratch.last.as_slice(),
-        threads,
-        number,
-    );
-    cluster.lined.settle(&scratch.moves);
+    fill_register(&mut cluster.moves, threads, last, number);
+    cluster.lined.settle(&cluster.moves);
 }
 
 /// Settles each cluster.
-fn settle_all(clusters: &mut Items<ClusterPart>, scratch: &mut Scratch, threads: &[Thread])
-    requires touched { AreTouched scratch.old.touched scratch.old.before scratch.old.now scratch.old.last }
-    requires places { length threads.now ≡ 64 }
-    requires clusters { length clusters.old ≤ 4 }
-    requires lines { AllSettleable scratch.old.before threads.now 0 (clusters_of clusters.old) }
-    requires keyed { AllKeyed (key_of scratch.old.before) (linings clusters.old) }
-    ensures clusters { clusters_of clusters.new ≡ settled_from (moves scratch.old.before scratch.old.now scratch.old.last) (key_of scratch.old.now) threads.now 0 (clusters_of clusters.old) }
-    ensures lined { linings clusters.new ≡ relined scratch.old.before scratch.old.now scratch.old.last threads.now 0 (linings clusters.old) }
-    ensures before { scratch.new.before ≡ scratch.old.before }
-    ensures now { scratch.new.now ≡ scratch.old.now }
-    ensures touched { scratch.new.touched ≡ scratch.old.touched }
-    ensures last { scratch.new.last ≡ scratch.old.last }
-    ensures threads { scratch.new.threads ≡ scratch.old.threads }
+fn settle_all(clusters: &mut Items<ClusterPart>, threads: &Threads, last: &Option<ThreadIx>)
+    requires { length clusters.old ≤ 4 }
+    ensures lined { linings clusters.new ≡ relined threads.now.stood (map own_standing threads.now.places) (option_to_list last.now) 0 (linings clusters.old) }
+    ensures timers { timers_in clusters.new ≡ timers_in clusters.old }
 {
     for at in 0..clusters.len() {
-        settle_cluster(clusters.at_mut(at), scratch, threads, at as u8);
+        settle_cluster(clusters.at_mut(at), threads, last, at as u8);
     }
 }
 
-/// Settles a state after a change, where `scratch.before` says how the threads stood before it,
-/// `scratch.last` which go last, and `scratch.touched` which may stand otherwise or go last. Then
-/// `scratch.before` says how they stand now. It costs what the touched threads do.
-pub fn settle_core(core: &mut Core, scratch: &mut Scratch)
-    requires places { length core.old.threads ≡ 64 }
-    requires before { length scratch.old.before ≡ 64 }
-    requires now { scratch.old.now ≡ scratch.old.before }
-    requires touched { AreTouched scratch.old.touched scratch.old.before (standings (plain_of core.old)) scratch.old.last }
-    requires clusters { length core.old.clusters ≤ 4 }
-    requires lines { AllSettleable scratch.old.before core.old.threads 0 (clusters_of core.old.clusters) }
-    requires keyed { AllKeyed (key_of scratch.old.before) (linings core.old.clusters) }
-    requires numbered { AreNumbered 0 0 (linings core.old.clusters) }
-    ensures core { plain_of core.new ≡ settle_by scratch.old.before (plain_of core.old) scratch.old.last }
-    ensures before { scratch.new.before ≡ standings (plain_of core.new) }
-    ensures now { scratch.new.now ≡ standings (plain_of core.new) }
-    ensures keyed { AllKeyed (key_of scratch.new.before) (linings core.new.clusters) }
-    ensures numbered { AreNumbered 0 0 (linings core.new.clusters) }
-    ensures last { scratch.new.last ≡ scratch.old.last }
-    ensures threads { scratch.new.threads ≡ scratch.old.threads }
+/// Settles a state after a change, where one thread may go last. It costs what the threads do that
+/// were put since the state settled.
+pub fn settle_core(core: &mut Core, last: &Option<ThreadIx>)
+    requires { CanSettle core.old }
+    ensures settled { plain_of core.new ≡ settle_by core.old.threads.stood (plain_of core.old) (option_to_list last.now) }
+    ensures noted { IsNoted core.new }
 {
-    note_some(&mut scratch.now, core, scratch.touched.as_slice());
-    settle_all(&mut core.clusters, scratch, core.threads.as_slice());
-    note_some(&mut scratch.before, core, scratch.touched.as_slice());
+    // Reading the marks tells how many places there are.
+    let _marked = core.threads.marked();
+    settle_all(&mut core.clusters, &core.threads, last);
+    core.threads.note();
 }

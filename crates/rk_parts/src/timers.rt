@@ -3,7 +3,7 @@ ghost use Rattle.rk_model.specs.State.{cluster_at};
 ghost use Rattle.rk_model.specs.Timers.{arm, cancel, due_at, without_due, take_due, is_same as same, without_timer};
 ghost use Rattle.rk_parts.specs.Pieces.{plain_of};
 ghost use Rattle.rk_parts.specs.Firing.{head_of};
-ghost use Rattle.rk_parts.specs.Pinned.{linings};
+ghost use Rattle.rk_parts.specs.Pinned.{stored};
 
 use crate::core_state::{Core, Timers};
 use rk_model::{Armed, Armer};
@@ -13,7 +13,7 @@ pub fn arm_timer(core: &mut Core, cluster: u8, who: Armer, due: u64)
     requires cluster { cluster < length core.old.clusters }
     requires room { length (cluster_at (plain_of core.old) cluster).timers < 64 }
     ensures next { plain_of core.new ≡ arm (plain_of core.old) cluster (record { who = who; due = due }) }
-    ensures lined { linings core.new.clusters ≡ linings core.old.clusters }
+    ensures stored { stored core.new ≡ stored core.old }
 {
     add(&mut core.clusters.at_mut(cluster as usize).timers, who, due);
 }
@@ -22,7 +22,7 @@ pub fn arm_timer(core: &mut Core, cluster: u8, who: Armer, due: u64)
 pub fn cancel_timer(core: &mut Core, cluster: u8, who: Armer)
     requires { cluster < length core.old.clusters }
     ensures next { plain_of core.new ≡ cancel (plain_of core.old) cluster who }
-    ensures lined { linings core.new.clusters ≡ linings core.old.clusters }
+    ensures stored { stored core.new ≡ stored core.old }
 {
     remove(&mut core.clusters.at_mut(cluster as usize).timers, &who);
 }
@@ -78,7 +78,7 @@ pub fn take_due_of(core: &mut Core, cluster: usize) -> Option<Armed>
     requires { cluster < length core.old.clusters }
     ensures first { result ≡ head_of (due_at core.old.present (cluster_at (plain_of core.old) cluster).timers) }
     ensures taken { plain_of core.new ≡ take_due (plain_of core.old) cluster }
-    ensures lined { linings core.new.clusters ≡ linings core.old.clusters }
+    ensures stored { stored core.new ≡ stored core.old }
 {
     let now = u64::from(core.present);
     take_first(&mut core.clusters.at_mut(cluster).timers, now)

@@ -1,29 +1,41 @@
-use Rattle.std.proofs.Common.{◌≡◌, ap, sym, ◌∙◌}
-use Rattle.rk_model.specs.Priorities.{standings, nth_standing}
+use Rattle.std.proofs.Common.{◌≡◌, List, map, ap, sym, ◌∙◌, subst}
+use Rattle.std.specs.Option.{option_to_list}
+use Rattle.rk_model.specs.State.{Plain, ClusterState}
+use Rattle.rk_model.specs.declared.settling.Standing.{Standing}
+use Rattle.rk_model.specs.Priorities.{standings}
+use Rattle.rk_model.specs.Settling.{moves}
+use Rattle.rk_cluster.specs.Clusters.{Cluster}
 use Rattle.rk_parts.specs.Pieces.{plain_of, clusters_of}
-use Rattle.rk_parts.specs.Pinned.{linings, relined}
-use Rattle.rk_parts.proofs.Clusters.{numbered_relined, keyed_relined}
-use Rattle.rk_parts.proofs.Settling.{standings-with_clusters}
+use Rattle.rk_parts.specs.Threads.{own_standing}
+use Rattle.rk_parts.specs.Pinned.{linings, key_of, AllKeyed, AreNumbered}
+use Rattle.rk_parts.specs.Settled.{settled_from}
+use Rattle.rk_parts.proofs.Standings.{standings_own}
+use Rattle.rk_parts.proofs.Settling.{standings-with_clusters, settle_noted}
+use Rattle.rk_parts.proofs.Clusters.{parts_settled, numbered_relined, keyed_relined}
 use Rattle.rk_parts.proofs.settle.settle_core.Goals as goal
 
-pub note_some-requires-2-clause-others : goal.note_some-requires-2-clause-others
-note_some-requires-2-clause-others c = λ t h.
-    let same = standings-with_clusters (plain_of c.args.core.now) (clusters_of c.settle_all.new.clusters) in
-    ap (λ xs. nth_standing xs t) same ∙ c.requires.touched.still t (rw (c.as_slice-3.ensures, c.settle_all.ensures.touched) at h) ∙ ap (λ xs. nth_standing xs t) (sym c.settle_all.ensures.before)
+pub returns-clause-settled : goal.returns-clause-settled
+returns-clause-settled c =
+    let core = c.args.core.now in
+    let k = plain_of core in
+    let before = core.threads.stood in
+    let last = option_to_list c.args.last.now in
+    let now = map own_standing core.threads.places in
+    let made = parts_settled before now last core.clusters c.settle_all.new.clusters c.requires.lines c.requires.keyed c.settle_all.ensures.lined c.settle_all.ensures.timers in
+    let same : now ≡ standings k = sym (standings_own k) in
+    rw c.note.ensures (ap (λ (cs : List ClusterState). (let x : Plain = record k { clusters = cs } in x)) (made ∙ ap (λ (xs : List Standing). settled_from (moves before xs last) (λ d. key_of xs) 64 0 k.clusters) same)
+    ∙ settle_noted before k last c.marked-marked.ensures.places)
 
-pub returns-clause-now : goal.returns-clause-now
-returns-clause-now c = c.settle_all.ensures.now ∙ c.note_some.ensures ∙ sym (standings-with_clusters (plain_of c.args.core.now) (clusters_of c.settle_all.new.clusters))
-
-pub returns-clause-keyed : goal.returns-clause-keyed
-returns-clause-keyed c =
-    let k = plain_of c.args.core.now in
-    let before = c.args.scratch.now.before in
-    let last = c.args.scratch.now.last in
-    let parts = c.args.core.now.clusters in
-    let noted = c.note_some-2.ensures ∙ standings-with_clusters k (clusters_of c.settle_all.new.clusters) in
-    let lined : linings c.settle_all.new.clusters ≡ relined before (standings k) last c.args.core.now.threads 0 (linings parts) = rw (c.note_some.ensures, c.as_slice-2.ensures) at c.settle_all.ensures.lined in
-    rw (noted, lined) (keyed_relined before (standings k) last c.args.core.now.threads 0 parts c.requires.places c.requires.lines c.requires.keyed)
-
-pub returns-clause-numbered : goal.returns-clause-numbered
-returns-clause-numbered c =
-    rw c.settle_all.ensures.lined (numbered_relined _ _ _ c.as_slice-2.result.now 0 0 0 (linings c.args.core.now.clusters) c.requires.numbered)
+pub returns-clause-noted : goal.returns-clause-noted
+returns-clause-noted c =
+    let core = c.args.core.now in
+    let k = plain_of core in
+    let before = core.threads.stood in
+    let last = option_to_list c.args.last.now in
+    let now = map own_standing core.threads.places in
+    let same : now ≡ standings k = sym (standings_own k) in
+    rw c.note.ensures (record {
+      stood = same ∙ sym (standings-with_clusters k (clusters_of c.settle_all.new.clusters));
+      keyed = subst (λ (cs : List Cluster). AllKeyed (key_of now) cs) (sym c.settle_all.ensures.lined) (keyed_relined before now last 0 core.clusters c.requires.lines c.requires.keyed);
+      numbered = subst (AreNumbered 0 0) (sym c.settle_all.ensures.lined) (numbered_relined before now last 0 0 0 (linings core.clusters) c.requires.numbered);
+    })

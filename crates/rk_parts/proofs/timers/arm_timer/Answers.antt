@@ -1,5 +1,5 @@
 use Rattle.std.proofs.Common.{refl}
-use Rattle.rk_parts.proofs.Pieces.{put_armed, cluster_at-plain_of, same_linings}
+use Rattle.rk_parts.proofs.Pieces.{put_armed, cluster_at-plain_of, same_stored}
 use Rattle.rk_parts.proofs.timers.arm_timer.Goals as goal
 
 pub add-requires : goal.add-requires
@@ -8,5 +8,5 @@ add-requires c = rw (cluster_at-plain_of c.args.core.now c.args.cluster c.at_mut
 pub returns-clause-next : goal.returns-clause-next
 returns-clause-next c = put_armed c.args.core.now c.args.cluster c.at_mut.result.now c.add.new.timers _ c.requires.cluster c.at_mut.ensures.value c.add.ensures
 
-pub returns-clause-lined : goal.returns-clause-lined
-returns-clause-lined c = same_linings c.args.core.now.clusters c.args.cluster c.at_mut.result.now _ c.requires.cluster c.at_mut.ensures.value refl
+pub returns-clause-stored : goal.returns-clause-stored
+returns-clause-stored c = same_stored c.args.core.now c.args.cluster c.at_mut.result.now _ c.requires.cluster c.at_mut.ensures.value refl

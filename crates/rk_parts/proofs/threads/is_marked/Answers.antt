@@ -1,0 +1,6 @@
+use Rattle.std.proofs.Common.{◌∙◌}
+use Rattle.rk_parts.proofs.Tests.{any_has}
+use Rattle.rk_parts.proofs.threads.is_marked.Goals as goal
+
+pub returns : goal.returns
+returns c = c.contains.ensures.value ∙ any_has c.args.marked.now c.args.thread
