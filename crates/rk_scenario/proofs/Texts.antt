@@ -117,11 +117,13 @@ lines_read (line ∷ lines) d n s e =
       ],
     )
 
-skipped_line : (d : Draft) (line : List ℕ) → is_plain line ≡ true → is_skipped (words_of line) ≡ true → after_line d line ≡ Ok d
+-- a skipped line of allowed bytes changes nothing
+pub skipped_line : (d : Draft) (line : List ℕ) → is_plain line ≡ true → is_skipped (words_of line) ≡ true → after_line d line ≡ Ok d
 unfolding after_line after_words
 skipped_line d line plain skipped = rw (plain, skipped) refl
 
-kept_line : (d : Draft) (line : List ℕ) → is_plain line ≡ true → is_skipped (words_of line) ≡ false → after_line d line ≡ after_told d.phase d (words_of line)
+-- a line of allowed bytes that isn't skipped is a step
+pub kept_line : (d : Draft) (line : List ℕ) → is_plain line ≡ true → is_skipped (words_of line) ≡ false → after_line d line ≡ after_told d.phase d (words_of line)
 unfolding after_line after_words
 kept_line d line plain kept = rw (plain, kept) refl
 
