@@ -9,8 +9,7 @@ use Rattle.rk_model.specs.declared.scenario.Body.{Body}
 use Rattle.rk_model.specs.declared.scenario.Init.{Init}
 use Rattle.rk_model.specs.declared.scenario.Scenario.{Scenario}
 use Rattle.rk_model.specs.Scenarios.{AreOps, AreClusters, cpus_in, IsTicks, AreBodies, AreDistinct, AreInits, IsInit, body_of}
-use Rattle.rk_model.specs.Reading.{Phase, Start, Headed, Clustered, Timed, Limited, InBody, InInits, Draft, no_body, op_line, init_operands, is_header, is_end, cluster_line, ticks_line, limit_line, body_line, inner_line, init_line, at_limited, after_told}
-use Rattle.rk_scenario.specs.Drafts.{known_at}
+use Rattle.rk_model.specs.Reading.{Phase, Start, Headed, Clustered, Timed, Limited, InBody, InInits, Draft, no_body, known_at, op_line, init_operands, is_header, is_end, cluster_line, ticks_line, limit_line, body_line, inner_line, init_line, at_limited, after_told}
 use Rattle.rk_scenario.proofs.Spelled.{number_is, init_is}
 use Rattle.rk_scenario.proofs.Directives.{op_is, op_not_end}
 use Rattle.rk_scenario.proofs.Numbers.{room_for}
@@ -178,7 +177,7 @@ init_limited_taken : (p : Phase) (b : Scenario) (o : Body) (words : List (List �
 init_limited_taken p b o words told s h = init_is_limited p b o words told s (init_taken p b o words told s h.more h.lines h.few h.whole)
 
 limited_taken : (p : Phase) (b : Scenario) (o : Body) (words : List (List ℕ)) (told bodies inits : List (List (List ℕ))) (s : Scenario) (more : List Body)
-    → words ∷ told ≡ bodies ++ inits → AreBodies b.bodies bodies more → length s.bodies ≤ 32 → AreDistinct s.bodies → InitsLeft (record b { bodies = b.bodies ++ more }) inits s
+    → words ∷ told ≡ bodies ++ inits → AreBodies (length b.clusters) b.bodies bodies more → length s.bodies ≤ 32 → AreDistinct s.bodies → InitsLeft (record b { bodies = b.bodies ++ more }) inits s
     → IsLimitedTaken p b o words told s
 unfolding body_line
 limited_taken p b o words told bodies inits s [] told_is are few distinct after =
@@ -266,7 +265,7 @@ timed_taken b o words told (line ∷ more ∷ limits) rest s limit told_is sets 
 -- ---- lines of a body
 
 body_taken : (b : Scenario) (o : Body) (words : List (List ℕ)) (told : List (List (List ℕ))) (s : Scenario) (inner rest : List (List (List ℕ))) (more : List Op)
-    → words ∷ told ≡ inner ++ (codes "end" ∷ []) ∷ rest → AreOps (known_at b.bodies o) inner more → length (o.lines ++ more) ≤ 1000
+    → words ∷ told ≡ inner ++ (codes "end" ∷ []) ∷ rest → AreOps (known_at b o) inner more → length (o.lines ++ more) ≤ 1000
     → BodiesLeft (record b { bodies = b.bodies ++ (record o { lines = o.lines ++ more }) ∷ [] }) rest s
     → IsTaken InBody b o words told s
 unfolding is_end inner_line
@@ -283,8 +282,8 @@ body_taken b o words told s (line ∷ inner) rest [] told_is lines few after = a
 body_taken b o words told s (line ∷ inner) rest (op ∷ more) told_is lines few after =
     let word : words ≡ line = cc told_is in
     let is : told ≡ inner ++ (codes "end" ∷ []) ∷ rest = cc told_is in
-    let going : is_end line ≡ false = op_not_end (known_at b.bodies o) line op lines.0 in
-    let read : op_line (known_at b.bodies o) line ≡ Ok op = op_is (known_at b.bodies o) line op lines.0 in
+    let going : is_end line ≡ false = op_not_end (known_at b o) line op lines.0 in
+    let read : op_line (known_at b o) line ≡ Ok op = op_is (known_at b o) line op lines.0 in
     let room : nat_lt (length o.lines) 1000 ≡ true = lt-ltb (length o.lines) 1000 (omega (arith, length-append o.lines (op ∷ more))) in
     let join : o.lines ++ op ∷ more ≡ (o.lines ++ op ∷ []) ++ more = sym (append_assoc o.lines (op ∷ []) more) in
     record {
@@ -317,7 +316,7 @@ no_inits : (b s : Scenario) (more : List Init) → AreInits s [] more → s ≡ 
 no_inits b s [] lines whole = sym (whole ∙ ap (λ (x : List Init). record b { inits = x }) (append-nil b.inits))
 no_inits b s (init ∷ more) lines whole = absurd lines
 
-no_bodies : (b s : Scenario) (bodies inits : List (List (List ℕ))) (more : List Body) → [] ≡ bodies ++ inits → AreBodies b.bodies bodies more → InitsLeft (record b { bodies = b.bodies ++ more }) inits s → b ≡ s
+no_bodies : (b s : Scenario) (bodies inits : List (List (List ℕ))) (more : List Body) → [] ≡ bodies ++ inits → AreBodies (length b.clusters) b.bodies bodies more → InitsLeft (record b { bodies = b.bodies ++ more }) inits s → b ≡ s
 no_bodies b s [] [] [] told_is are after =
     no_inits b s after.more after.lines (after.whole ∙ ap (λ (x : List Body). record (record b { bodies = x }) { inits = b.inits ++ after.more }) (append-nil b.bodies))
 no_bodies b s [] [] (body ∷ more) told_is are after = absurd (cc (are.2 ∙ ap (λ (x : List (List (List ℕ))). x ++ are.1) are.3.told_is))

@@ -5,8 +5,7 @@ use Rattle.rk_model.specs.declared.scenario.Body.{Body}
 use Rattle.rk_model.specs.declared.scenario.Init.{Init}
 use Rattle.rk_model.specs.declared.scenario.Scenario.{Scenario}
 use Rattle.rk_model.specs.Scenarios.{AreOps, AreBodies, AreDistinct, AreInits, IsNumber, IsCluster, AreClusters, cpus_in, IsTicks, IsInit}
-use Rattle.rk_model.specs.Reading.{Phase, Start, Headed, Clustered, Timed, Limited, InBody, InInits, Draft, init_operands}
-use Rattle.rk_scenario.specs.Drafts.{known_at}
+use Rattle.rk_model.specs.Reading.{Phase, Start, Headed, Clustered, Timed, Limited, InBody, InInits, Draft, known_at, init_operands}
 
 -- init lines, after those of b
 pub record InitsLeft (b : Scenario) (told : List (List (List ℕ))) (s : Scenario) : Type 0 where
@@ -21,7 +20,7 @@ pub record BodiesLeft (b : Scenario) (told : List (List (List ℕ))) (s : Scenar
   pub inits : List (List (List ℕ))
   pub told_is : told ≡ bodies ++ inits
   pub more : List Body
-  pub bodies_are : AreBodies b.bodies bodies more
+  pub bodies_are : AreBodies (length b.clusters) b.bodies bodies more
   pub few : length s.bodies ≤ 32
   pub distinct : AreDistinct s.bodies
   pub after : InitsLeft (record b { bodies = b.bodies ++ more }) inits s
@@ -32,7 +31,7 @@ pub record BodyLeft (b : Scenario) (o : Body) (told : List (List (List ℕ))) (s
   pub rest : List (List (List ℕ))
   pub told_is : told ≡ inner ++ (codes "end" ∷ []) ∷ rest
   pub more : List Op
-  pub lines : AreOps (known_at b.bodies o) inner more
+  pub lines : AreOps (known_at b o) inner more
   pub few : length (o.lines ++ more) ≤ 1000
   pub after : BodiesLeft (record b { bodies = b.bodies ++ (record o { lines = o.lines ++ more }) ∷ [] }) rest s
 

@@ -12,8 +12,7 @@ use Rattle.rk_model.specs.declared.scenario.ScenarioWhy.{ScenarioWhy}
 use Rattle.rk_model.specs.declared.scenario.ScenarioWhy.TheVariants.{Header, NotYetBuilt}
 use Rattle.rk_model.specs.Words.{is_body_name}
 use Rattle.rk_model.specs.Scenarios.{AreDistinct, IsBody, IsInit, body_of, cpus_in}
-use Rattle.rk_model.specs.Reading.{Phase, Start, Headed, Clustered, Timed, Limited, InBody, InInits, Draft, number_operand, op_line, init_operands, is_header, is_end, with_cluster, with_body, with_op, with_init, cluster_line, ticks_line, limit_line, body_line, inner_line, init_line, at_start, at_headed, at_clustered, at_timed, at_limited, at_inits, in_body, after_told}
-use Rattle.rk_scenario.specs.Drafts.{known_at}
+use Rattle.rk_model.specs.Reading.{Phase, Start, Headed, Clustered, Timed, Limited, InBody, InInits, Draft, number_operand, known_at, op_line, init_operands, is_header, is_end, with_cluster, with_body, with_op, with_init, cluster_line, ticks_line, limit_line, body_line, inner_line, init_line, at_start, at_headed, at_clustered, at_timed, at_limited, at_inits, in_body, after_told}
 use Rattle.rk_scenario.proofs.Spelled.{bind_ok, then_ok, else_ok, either_ok, ok_is, text_is, number_ok, init_ok}
 use Rattle.rk_scenario.proofs.Directives.{op_ok}
 use Rattle.rk_scenario.proofs.Numbers.{has_room, few_with, few_cpus_with}
@@ -246,7 +245,7 @@ inits_sound p b o words next e keeps =
 
 -- ---- bodies
 
-bodies_cons : (b : Scenario) (body : Body) (first told : List (List (List ℕ))) (s : Scenario) → IsBody b.bodies first body
+bodies_cons : (b : Scenario) (body : Body) (first told : List (List (List ℕ))) (s : Scenario) → IsBody (length b.clusters) b.bodies first body
     → BodiesLeft (record b { bodies = b.bodies ++ body ∷ [] }) told s → BodiesLeft b (first ++ told) s
 bodies_cons b body first told s is left = record {
   bodies = first ++ left.bodies;
@@ -266,7 +265,7 @@ body_cons b name told s named left =
     let end : List (List (List ℕ)) = (codes "end" ∷ []) ∷ [] in
     let first : List (List (List ℕ)) = line ∷ left.inner ++ end in
     let body : Body = record { name = name; lines = left.more } in
-    let is : IsBody b.bodies first body = record { inner = left.inner; told_is = refl; name = named; few = left.few; ops = left.lines } in
+    let is : IsBody (length b.clusters) b.bodies first body = record { inner = left.inner; told_is = refl; name = named; few = left.few; ops = left.lines } in
     let whole : line ∷ told ≡ first ++ left.rest = ap (λ (x : List (List (List ℕ))). line ∷ x) (left.told_is ∙ sym (append_assoc left.inner end left.rest)) in
     subst (λ (x : List (List (List ℕ))). BodiesLeft b x s) (sym whole) (bodies_cons b body first left.rest s is left.after)
 
@@ -375,7 +374,7 @@ inner_sound : (b : Scenario) (o : Body) (words : List (List ℕ)) (next : Draft)
 unfolding inner_line
 inner_sound b o words next e keeps =
     let d = draft_at InBody b o in
-    let op = bind_ok (op_line (known_at b.bodies o) words) (λ op. cond (nat_lt (length o.lines) 1000) (Ok (with_op d op)) (Err NotYetBuilt)) next e in
+    let op = bind_ok (op_line (known_at b o) words) (λ op. cond (nat_lt (length o.lines) 1000) (Ok (with_op d op)) (Err NotYetBuilt)) next e in
     let r = then_ok (nat_lt (length o.lines) 1000) (Ok (with_op d op.0)) NotYetBuilt next op.2 in
     let room : length o.lines < 1000 = ltb-true (length o.lines) 1000 r.0 in
     subst (λ (x : Draft). IsSound InBody b o words x) (ok_is (with_op d op.0) next r.1) (record {
@@ -387,7 +386,7 @@ inner_sound b o words next e keeps =
             rest = left.rest;
             told_is = ap (λ (x : List (List (List ℕ))). words ∷ x) left.told_is;
             more = op.0 ∷ left.more;
-            lines = (op_ok (known_at b.bodies o) words op.0 op.1, left.lines);
+            lines = (op_ok (known_at b o) words op.0 op.1, left.lines);
             few = subst (λ (x : List Op). length x ≤ 1000) join left.few;
             after = subst (λ (x : List Op). BodiesLeft (record b { bodies = b.bodies ++ (record o { lines = x }) ∷ [] }) left.rest s) join left.after;
           };

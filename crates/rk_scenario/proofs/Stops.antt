@@ -61,7 +61,8 @@ record StopsAt (d : Draft) (n : ℕ) (lines : List (List ℕ)) (fault : Fault) :
   stops : at < length lines → (more : List (List ℕ)) (s : Scenario) → verdict_from d n (take (suc at) lines ++ more) ≡ Reads s → ⊥
   ends : length lines ≤ at → at ≡ length lines
 
-end_line : (p : Phase) (s : Scenario) (n : ℕ) (fault : Fault) → at_end p s n ≡ Faults fault → fault.line ≡ n
+-- the fault of an end is at the line that would follow
+pub end_line : (p : Phase) (s : Scenario) (n : ℕ) (fault : Fault) → at_end p s n ≡ Faults fault → fault.line ≡ n
 end_line Start s n fault e = cc
 end_line Headed s n fault e = cc
 end_line Clustered s n fault e = cc
@@ -79,7 +80,8 @@ refused_reads : (r : Result Draft ScenarioWhy) (why : ScenarioWhy) (n : ℕ) (re
 refused_reads (Ok next) why n rest s is e = absurd cc
 refused_reads (Err other) why n rest s is e = absurd cc
 
-taken_reads : (r : Result Draft ScenarioWhy) (next : Draft) (n : ℕ) (rest : Draft → Verdict) (v : Verdict) → r ≡ Ok next → goes_on r n rest ≡ v → rest next ≡ v
+-- the verdict behind a line that was taken is that on what follows
+pub taken_reads : (r : Result Draft ScenarioWhy) (next : Draft) (n : ℕ) (rest : Draft → Verdict) (v : Verdict) → r ≡ Ok next → goes_on r n rest ≡ v → rest next ≡ v
 taken_reads (Ok other) next n rest v is e = let same : other ≡ next = cc in ap rest (sym same) ∙ e
 taken_reads (Err why) next n rest v is e = absurd cc
 
@@ -150,13 +152,14 @@ fault_is : (v : Verdict) (fault : Fault) → fault_in v ≡ Some fault → v ≡
 fault_is (Reads s) fault e = absurd cc
 fault_is (Faults other) fault e = cc
 
-size_faults : (large : Bool) (first fault : Fault) (v : Verdict) → fault_in (cond large (Faults first) v) ≡ Some fault → ((large ≡ true) × (fault.line ≡ first.line)) ⊎ ((large ≡ false) × (v ≡ Faults fault))
+-- a fault is that of the whole text, or of its lines
+pub size_faults : (large : Bool) (first fault : Fault) (v : Verdict) → fault_in (cond large (Faults first) v) ≡ Some fault → ((large ≡ true) × (fault ≡ first)) ⊎ ((large ≡ false) × (v ≡ Faults fault))
 size_faults true first fault v e = inl (refl, cc)
 size_faults false first fault v e = inr (refl, fault_is v fault e)
 
 pub faults_at_first_stop : FaultsAtFirstStop
 faults_at_first_stop bytes fault e =
     elim (size_faults (nat_lt 1048576 (length bytes)) (record { line = 0; why = TooLarge }) fault (verdict_from start 1 (lines_of bytes)) e) [
-      | inl t ↦ inl (ltb-true 1048576 (length bytes) t.0, t.1)
+      | inl t ↦ inl (ltb-true 1048576 (length bytes) t.0, ap (λ (x : Fault). x.line) t.1)
       | inr t ↦ inr (ltb-false 1048576 (length bytes) t.0, first_stop (lines_of bytes) fault t.1)
     ]

@@ -117,11 +117,13 @@ lines_read (line ∷ lines) d n s e =
       ],
     )
 
-skipped_line : (d : Draft) (line : List ℕ) → is_plain line ≡ true → is_skipped (words_of line) ≡ true → after_line d line ≡ Ok d
+-- a skipped line of allowed bytes changes nothing
+pub skipped_line : (d : Draft) (line : List ℕ) → is_plain line ≡ true → is_skipped (words_of line) ≡ true → after_line d line ≡ Ok d
 unfolding after_line after_words
 skipped_line d line plain skipped = rw (plain, skipped) refl
 
-kept_line : (d : Draft) (line : List ℕ) → is_plain line ≡ true → is_skipped (words_of line) ≡ false → after_line d line ≡ after_told d.phase d (words_of line)
+-- a line of allowed bytes that isn't skipped is a step
+pub kept_line : (d : Draft) (line : List ℕ) → is_plain line ≡ true → is_skipped (words_of line) ≡ false → after_line d line ≡ after_told d.phase d (words_of line)
 unfolding after_line after_words
 kept_line d line plain kept = rw (plain, kept) refl
 
@@ -171,6 +173,7 @@ tells_of told s h =
     let counts : List ℕ = first.cpus ∷ clusters.more in
     let lines : List (List (List ℕ)) = first.cluster ∷ clusters.clusters in
     let clusters-is : s.clusters ≡ counts = ap (λ (x : Scenario). x.clusters) inits.whole in
+    let bodies-are : AreBodies (length s.clusters) [] bodies.bodies bodies.more = subst (λ (ms : List ℕ). AreBodies (length ms) [] bodies.bodies bodies.more) (sym clusters-is) bodies.bodies_are in
     let horizon-is : s.horizon ≡ clusters.horizon = ap (λ (x : Scenario). x.horizon) inits.whole in
     let limit-is : s.limit ≡ limit.limit = ap (λ (x : Scenario). x.limit) inits.whole in
     let bodies-is : s.bodies ≡ bodies.more = ap (λ (x : Scenario). x.bodies) inits.whole in
@@ -190,7 +193,7 @@ tells_of told s h =
       few_cpus = subst (λ (ms : List ℕ). cpus_in ms ≤ 8) (sym clusters-is) clusters.few_cpus;
       ticks_are = subst (λ (n : ℕ). IsTicks clusters.ticks n) (sym horizon-is) clusters.ticks_are;
       limit_is = subst (λ (n : ℕ). IsLimit limit.limits n) (sym limit-is) (limit_of_sets limit.limits limit.limit limit.sets);
-      bodies_are = subst (λ (x : List Body). AreBodies [] bodies.bodies x) (sym bodies-is) bodies.bodies_are;
+      bodies_are = subst (λ (x : List Body). AreBodies (length s.clusters) [] bodies.bodies x) (sym bodies-is) bodies-are;
       few_bodies = bodies.few;
       distinct = bodies.distinct;
       inits_are = subst (λ (x : List Init). AreInits s bodies.inits x) (sym inits-is) inits.lines;
@@ -252,7 +255,7 @@ completes_of told s t =
               inits = t.inits;
               told_is = refl;
               more = s.bodies;
-              bodies_are = t.bodies_are;
+              bodies_are = subst (λ (ms : List ℕ). AreBodies (length ms) [] t.bodies s.bodies) c.counts_is t.bodies_are;
               few = t.few_bodies;
               distinct = t.distinct;
               after = record {

@@ -1,8 +1,7 @@
 -- What has been read so far, as the code has it, and what taking a line does to it.
-use Rattle.std.specs.Prelude.{ℕ, ◌≡◌, ◌≤◌, List, Result, Ok, Err, length}
-use Rattle.rk_model.specs.declared.scenario.Body.{Body}
+use Rattle.std.specs.Prelude.{ℕ, ◌≡◌, ◌≤◌, Result, Ok, Err, length}
 use Rattle.rk_model.specs.declared.scenario.ScenarioWhy.{ScenarioWhy}
-use Rattle.rk_model.specs.Scenarios.{Known, cpus_in}
+use Rattle.rk_model.specs.Scenarios.{cpus_in}
 use Rattle.rk_model.specs.Reading as reading
 use Rattle.rk_scenario.specs.declared.errors.LineError.{LineError}
 use Rattle.rk_scenario.specs.declared.errors.LineError.TheVariants as errors
@@ -23,10 +22,6 @@ phase_of InInits = reading.InInits
 -- the same draft among the definitions
 abbrev pub draft_of : Draft → reading.Draft
 draft_of d = record { phase = phase_of d.phase; scenario = d.scenario; body = d.body }
-
--- what a line of this open body may refer to, with these bodies in front of it
-abbrev pub known_at : List Body → Body → Known
-known_at front body = record { bodies = front; own = body.name; earlier = body.lines }
 
 -- A line was taken, and gave the new draft; or it wasn't, for what is wrong with it or for want of memory.
 abbrev pub Takes : Result (Unit {0}) LineError → Result reading.Draft ScenarioWhy → Draft → Type 0

@@ -261,7 +261,7 @@ impl Draft {
         ensures next { Takes result (reading.inner_line (draft_of self.old) words.now) self.new }
         ensures small { OnOk result (IsSmall self.new) }
     {
-        let op = read_op(self.scenario.bodies.as_slice(), &self.body, words)?;
+        let op = read_op(&self.scenario, &self.body, words)?;
         if self.body.lines.len() < 1000 {
             self.body.lines.push(op)?;
             Ok(())

@@ -1,6 +1,6 @@
 //! Laws of the texts of scenarios. The contract of each function is a law; calling it does nothing.
 
-ghost use Rattle.rk_scenario.specs.Laws.{ReadsTexts, ReadsEachText, OneScenario, FaultlessAreTexts, FaultsAtFirstStop};
+ghost use Rattle.rk_scenario.specs.Laws.{ReadsTexts, ReadsEachText, OneScenario, FaultlessAreTexts, FaultsAtFirstStop, FaultsHaveTheirReasons};
 
 /// What the machine of the definitions reads from bytes is a scenario of which they are a text.
 pub fn machine_reads_texts()
@@ -26,4 +26,11 @@ pub fn faultless_bytes_are_texts()
 /// which no text goes on.
 pub fn fault_is_at_first_stop()
     ensures { FaultsAtFirstStop }
+{}
+
+/// A fault has the reason `TooLarge` exactly where the text is larger than 1,048,576 bytes. In any
+/// other text it has the reason `Header` exactly where every line in front of its line is skipped,
+/// and its line is missing or consists of allowed bytes.
+pub fn fault_has_its_reason()
+    ensures { FaultsHaveTheirReasons }
 {}

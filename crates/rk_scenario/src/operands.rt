@@ -3,10 +3,9 @@ ghost use Rattle.std.specs.Option.{option_map};
 ghost use Rattle.std.specs.List.{list_all};
 ghost use Rattle.rk_model.specs.Words.{digit_value, digit_below, value_from, decimal_of, number_of, name_of, var_of, is_name_byte, is_lower, is_body_byte, is_body_name};
 ghost use Rattle.rk_model.specs.Scenarios.{body_of, body_known, body_from, is_named, may_be_target, is_target};
-ghost use Rattle.rk_model.specs.Reading.{number_operand, cluster_operand, var_operand, fixed_operand, id_operand, goto_operand, name_operand, name0_operand, body_operand, start_operand};
-ghost use Rattle.rk_scenario.specs.Drafts.{known_at};
+ghost use Rattle.rk_model.specs.Reading.{known_at, number_operand, cluster_operand, var_operand, fixed_operand, id_operand, goto_operand, name_operand, name0_operand, body_operand, start_operand};
 
-use rk_model::{Body, Name, Op, ScenarioWhy, Target};
+use rk_model::{Body, Name, Op, Scenario, ScenarioWhy, Target};
 
 /// Greater than every number that a line may have. Numbers of any length are read, and greater
 /// ones are given as this.
@@ -293,11 +292,15 @@ fn known_body(front: &[Body], own: &[u8], name: &[u8]) -> Option<usize>
 /// The number of the body whose name a word is, of those that a line of the open body may name: the
 /// ones in front of it, and itself.
 #[tactic(auto, unfolding(rk_model::specs::Reading::start_operand))]
-pub(crate) fn start_operand(front: &[Body], body: &Body, word: &[u8]) -> Result<u8, ScenarioWhy>
-    requires { length front.now ≤ 255 }
-    ensures { result ≡ start_operand (known_at front.now body.now) word.now }
+pub(crate) fn start_operand(
+    scenario: &Scenario,
+    body: &Body,
+    word: &[u8],
+) -> Result<u8, ScenarioWhy>
+    requires { length scenario.now.bodies ≤ 255 }
+    ensures { result ≡ start_operand (known_at scenario.now body.now) word.now }
 {
-    match known_body(front, body.name.as_slice(), word) {
+    match known_body(scenario.bodies.as_slice(), body.name.as_slice(), word) {
         Some(number) => Ok(number as u8),
         None => Err(ScenarioWhy::NotYetBuilt),
     }

@@ -1,53 +1,64 @@
 ghost use Rattle.std.specs.Prelude.{◌≡◌, ◌≤◌, ◌∷◌, [], length};
 ghost use Rattle.rk_model.specs.Forms.{form_of};
-ghost use Rattle.rk_model.specs.Reading.{op_line, line_like, form_line};
-ghost use Rattle.rk_scenario.specs.Drafts.{known_at};
+ghost use Rattle.rk_model.specs.Reading.{known_at, op_line, line_like, form_line};
 
 use crate::operands::{
     any_operand, goto_operand, id_operand, name_operand, name0_operand, number_operand,
     start_operand, var_operand,
 };
 use crate::words::Word;
-use rk_model::{Body, Op, ScenarioWhy};
+use rk_model::{Body, Op, Scenario, ScenarioWhy};
 
 /// What a line of an open body stands for behind the lines that this has so far, by its words.
-/// `front` are the bodies in front of it.
+/// `scenario` is what has been read of the scenario, with the bodies in front of the open one.
 #[tactic(auto, unfolding(rk_model::specs::Reading::op_line))]
-pub(crate) fn read_op(front: &[Body], body: &Body, words: &[Word]) -> Result<Op, ScenarioWhy>
-    requires bodies { length front.now ≤ 255 }
+pub(crate) fn read_op(scenario: &Scenario, body: &Body, words: &[Word]) -> Result<Op, ScenarioWhy>
+    requires bodies { length scenario.now.bodies ≤ 255 }
     requires lines { length body.now.lines ≤ 1000 }
-    ensures { result ≡ op_line (known_at front.now body.now) words.now }
+    ensures { result ≡ op_line (known_at scenario.now body.now) words.now }
 {
     match words {
         [] => Err(ScenarioWhy::NotYetBuilt),
         [first, operands @ ..] => match Op::of_word(first.as_slice()) {
             None => Err(ScenarioWhy::NotYetBuilt),
-            Some(form) => read_form(front, body, form, operands),
+            Some(form) => read_form(scenario, body, form, operands),
         },
     }
 }
 
 /// What a line of the form of this one stands for, by the words behind it.
 #[tactic(auto, unfolding(rk_model::specs::Reading::form_line))]
-fn read_form(front: &[Body], body: &Body, form: Op, operands: &[Word]) -> Result<Op, ScenarioWhy>
-    requires bodies { length front.now ≤ 255 }
+fn read_form(
+    scenario: &Scenario,
+    body: &Body,
+    form: Op,
+    operands: &[Word],
+) -> Result<Op, ScenarioWhy>
+    requires bodies { length scenario.now.bodies ≤ 255 }
     requires lines { length body.now.lines ≤ 1000 }
-    ensures { result ≡ form_line (known_at front.now body.now) (form_of form) operands.now }
+    ensures { result ≡ form_line (known_at scenario.now body.now) (form_of form) operands.now }
 {
     match operands {
-        [a] => read_one(front, body, form, a.as_slice()),
-        [a, b] => read_two(front, body, form, a.as_slice(), b.as_slice()),
-        [a, b, c] => read_three(front, body, form, a.as_slice(), b.as_slice(), c.as_slice()),
+        [a] => read_one(scenario, body, form, a.as_slice()),
+        [a, b] => read_two(scenario, body, form, a.as_slice(), b.as_slice()),
+        [a, b, c] => read_three(
+            scenario,
+            body,
+            form,
+            a.as_slice(),
+            b.as_slice(),
+            c.as_slice(),
+        ),
         _ => Err(ScenarioWhy::NotYetBuilt),
     }
 }
 
 /// What a line of the form of this one with one operand stands for.
 #[tactic(auto, unfolding(rk_model::specs::Reading::form_line, rk_model::specs::Reading::operand_of))]
-fn read_one(front: &[Body], body: &Body, form: Op, a: &[u8]) -> Result<Op, ScenarioWhy>
-    requires bodies { length front.now ≤ 255 }
+fn read_one(scenario: &Scenario, body: &Body, form: Op, a: &[u8]) -> Result<Op, ScenarioWhy>
+    requires bodies { length scenario.now.bodies ≤ 255 }
     requires lines { length body.now.lines ≤ 1000 }
-    ensures { result ≡ form_line (known_at front.now body.now) (form_of form) (a.now ∷ []) }
+    ensures { result ≡ form_line (known_at scenario.now body.now) (form_of form) (a.now ∷ []) }
 {
     match form {
         Op::Work(_) => Ok(Op::Work(number_operand(1, 1_000_000, a)?)),
@@ -62,14 +73,20 @@ fn read_one(front: &[Body], body: &Body, form: Op, a: &[u8]) -> Result<Op, Scena
 
 /// What a line of the form of this one with two operands stands for.
 #[tactic(auto, unfolding(rk_model::specs::Reading::form_line, rk_model::specs::Reading::operand_of))]
-fn read_two(front: &[Body], body: &Body, form: Op, a: &[u8], b: &[u8]) -> Result<Op, ScenarioWhy>
-    requires bodies { length front.now ≤ 255 }
+fn read_two(
+    scenario: &Scenario,
+    body: &Body,
+    form: Op,
+    a: &[u8],
+    b: &[u8],
+) -> Result<Op, ScenarioWhy>
+    requires bodies { length scenario.now.bodies ≤ 255 }
     requires lines { length body.now.lines ≤ 1000 }
-    ensures { result ≡ form_line (known_at front.now body.now) (form_of form) (a.now ∷ b.now ∷ []) }
+    ensures { result ≡ form_line (known_at scenario.now body.now) (form_of form) (a.now ∷ b.now ∷ []) }
 {
     match form {
         Op::TaskIdent(_, _) => Ok(Op::TaskIdent(name_operand(a)?, var_operand(b)?)),
-        Op::TaskStart(_, _) => Ok(Op::TaskStart(id_operand(a)?, start_operand(front, body, b)?)),
+        Op::TaskStart(_, _) => Ok(Op::TaskStart(id_operand(a)?, start_operand(scenario, body, b)?)),
         _ => Err(ScenarioWhy::NotYetBuilt),
     }
 }
@@ -77,16 +94,16 @@ fn read_two(front: &[Body], body: &Body, form: Op, a: &[u8], b: &[u8]) -> Result
 /// What a line of the form of this one with three operands stands for.
 #[tactic(auto, unfolding(rk_model::specs::Reading::form_line, rk_model::specs::Reading::operand_of))]
 fn read_three(
-    front: &[Body],
+    scenario: &Scenario,
     body: &Body,
     form: Op,
     a: &[u8],
     b: &[u8],
     c: &[u8],
 ) -> Result<Op, ScenarioWhy>
-    requires bodies { length front.now ≤ 255 }
+    requires bodies { length scenario.now.bodies ≤ 255 }
     requires lines { length body.now.lines ≤ 1000 }
-    ensures { result ≡ form_line (known_at front.now body.now) (form_of form) (a.now ∷ b.now ∷ c.now ∷ []) }
+    ensures { result ≡ form_line (known_at scenario.now body.now) (form_of form) (a.now ∷ b.now ∷ c.now ∷ []) }
 {
     match form {
         Op::TaskCreate(_, _, _) => Ok(Op::TaskCreate(
