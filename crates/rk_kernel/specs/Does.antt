@@ -3,11 +3,11 @@ use Rattle.std.specs.Prelude.{◌≡◌}
 use Rattle.rk_model.specs.declared.entry.Answer.{Answer}
 use Rattle.rk_parts.specs.declared.core_state.Core.{Core}
 use Rattle.rk_parts.specs.Pieces.{plain_of}
-use Rattle.rk_parts.specs.Pinned.{linings}
+use Rattle.rk_parts.specs.Pinned.{stored}
 use Rattle.rk_model.specs.Outcomes.{Outcome, answer_of, changed}
 
--- the answer is that of the outcome, the state is changed as it says, and the stored clusters are as before
+-- the answer is that of the outcome, the state is changed as it says, and what is stored beside it is as before
 pub record Does (o : Outcome) (answer : Answer) (before after : Core) : Type 0 where
   pub told : answer ≡ answer_of o
   pub state : plain_of after ≡ changed (plain_of before) o
-  pub lined : linings after.clusters ≡ linings before.clusters
+  pub kept : stored after ≡ stored before

@@ -1,5 +1,5 @@
 -- What holds of each state that a legal history leads to: of lines, runners and processors, and of refusals.
-use Rattle.std.specs.Prelude.{ℕ, ◌+◌, ◌<◌, ◌≤◌, ◌≡◌, ◌↔◌, List, [], ◌∷◌, ◌++◌, Bool, true, false, ◌&&◌, ◌||◌, not, Option, Some, None, ◌==◌, length, if◌then◌else◌}
+use Rattle.std.specs.Prelude.{ℕ, ◌+◌, ◌<◌, ◌≤◌, ◌≡◌, ◌↔◌, ◌⊎◌, List, [], ◌∷◌, ◌++◌, Bool, true, false, ◌&&◌, ◌||◌, not, Option, Some, None, ◌==◌, length, if◌then◌else◌}
 use Rattle.rk_model.specs.declared.scenario.Scenario.{Scenario}
 use Rattle.rk_model.specs.declared.scenario.Op.{Op}
 use Rattle.rk_model.specs.declared.entry.Entry.{Entry}
@@ -8,13 +8,18 @@ use Rattle.rk_model.specs.declared.entry.What.TheVariants.{Call, Return, Tick, E
 use Rattle.rk_model.specs.declared.state.Thread.{Thread}
 use Rattle.rk_model.specs.declared.entry.View.TheVariants.{Runs}
 use Rattle.rk_model.specs.Lists.{has, times}
-use Rattle.rk_model.specs.State.{Plain, thread_at, put_thread, op_at, cluster_at}
+use Rattle.rk_model.specs.declared.ids.Class.{Class}
+use Rattle.rk_model.specs.declared.ids.Class.TheVariants.{Task}
+use Rattle.rk_model.specs.Names.{indices}
+use Rattle.rk_model.specs.State.{Plain, no_thread, thread_at, put_thread, op_at, cluster_at}
+use Rattle.rk_model.specs.Objects.{names_in, is_live}
+use Rattle.rk_model.specs.Tasks.{begun_in}
 use Rattle.rk_model.specs.Outcomes.{finished}
 use Rattle.rk_model.specs.Steps.{Act, act}
-use Rattle.rk_model.specs.Priorities.{home_prio}
+use Rattle.rk_model.specs.Priorities.{urgency}
 use Rattle.rk_model.specs.Lines.{rank, runners}
 use Rattle.rk_model.specs.Running.{running, caller}
-use Rattle.rk_model.specs.Histories.{Legal, after}
+use Rattle.rk_model.specs.Histories.{Legal, after, ends, lowest}
 use Rattle.rk_model.specs.Scenarios.{IsScenario}
 use Rattle.rk_kernel.specs.declared.steps.CoreStep.{CoreStep}
 use Rattle.rk_kernel.specs.declared.steps.CoreStep.TheVariants.{Did, Nothing}
@@ -56,7 +61,7 @@ pub record StandsUrgent (key : ℕ → ℕ) (m : ℕ) (line : List ℕ) (t : ℕ
 
 -- The runners of each cluster are exactly those of its line with fewer more urgent ones than there are processors.
 abbrev pub RunsTheMostUrgent : Plain → Type 0
-RunsTheMostUrgent k = (c t : ℕ) → c < length k.clusters → has (runners k c) t ≡ true ↔ StandsUrgent (home_prio k) (length (cluster_at k c).cpus) (cluster_at k c).line t
+RunsTheMostUrgent k = (c t : ℕ) → c < length k.clusters → has (runners k c) t ≡ true ↔ StandsUrgent (urgency k c) (length (cluster_at k c).cpus) (cluster_at k c).line t
 
 -- It is so after each legal history.
 abbrev pub RunnersAreTheMostUrgent : Type 0
@@ -65,6 +70,23 @@ RunnersAreTheMostUrgent = AfterEach RunsTheMostUrgent
 -- No thread runs on two processors.
 abbrev pub NoneRunsTwice : Type 0
 NoneRunsTwice = AfterEach (λ k. (p q t : ℕ) → running k p ≡ Runs t → running k q ≡ Runs t → p ≡ q)
+
+-- The names of a class: each index from 1 to 64 is that of one live object, once, or is free, once; and an object lives exactly where it has begun.
+pub record HasNames (k : Plain) (class : Class) : Type 0 where
+  pub once : (index : ℕ) → 1 ≤ index → index ≤ 64 → times index (indices (names_in k class).live) + times index (names_in k class).free ≡ 1
+  pub begun : (index : ℕ) → is_live k class index ≡ begun_in k.threads class index
+
+-- It is so of each class after each legal history.
+abbrev pub NamesAndObjectsAgree : Type 0
+NamesAndObjectsAgree = AfterEach (λ k. (class : Class) → HasNames k class)
+
+-- Where no task lives, there is no thread: nothing is left there of one that was deleted.
+abbrev pub NothingIsLeftOfDeletedTasks : Type 0
+NothingIsLeftOfDeletedTasks = AfterEach (λ k. (t : ℕ) → is_live k Task t ≡ false → thread_at k t ≡ no_thread)
+
+-- The history in which always the least processor that has a directive acts ends with End, or has as many entries as it may have.
+abbrev pub LowestGoesOn : Type 0
+LowestGoesOn = (s : Scenario) (n : ℕ) → IsScenario s → (ends (lowest s n) ≡ true) ⊎ (length (lowest s n) ≡ n)
 
 -- A directive never acts for a line of work or a goto: a thread that has a directive and doesn't return from one is at another line, or behind the last.
 abbrev pub NoneActsAtWork : Type 0

@@ -101,7 +101,7 @@ pub record Fits (s : Scenario) (clusters present : ℕ) (x : Place) : Type 0 whe
 abbrev pub IsInBounds : Scenario → ℕ → ℕ → Thread → Type 0
 IsInBounds s clusters present thread = Fits s clusters present (place_of thread)
 
--- A state that a run may reach: sizes and numbers are within their limits, its bodies may be run, each thread is in bounds, each cluster is sound, and names and threads agree.
+-- A state that a run may reach: sizes and numbers are within their limits, its bodies may be run, each thread is in bounds, each cluster is sound, and names and objects agree.
 pub record IsSound (k : Plain) : Type 0 where
   pub places : length k.threads ≡ 64
   pub few_clusters : length k.clusters ≤ 4
@@ -112,7 +112,7 @@ pub record IsSound (k : Plain) : Type 0 where
   pub bodies : AreRunnable k.scenario.bodies
   pub threads : All (IsInBounds k.scenario (length k.clusters) k.present) k.threads
   pub clusters : AllSound k 0 k.clusters
-  pub named : AreNamed k.tasks k.threads
+  pub named : AreNamed k.table k.threads
 
 -- Each cluster has its line and its processors as before.
 abbrev pub KeepsLines : List ClusterState → List ClusterState → Type 0
@@ -126,13 +126,12 @@ abbrev pub AllTimed : List Thread → ℕ → List ClusterState → Type 0
 AllTimed threads c [] = Unit {0}
 AllTimed threads c (cluster ∷ clusters) = AreTimed threads c cluster.timers × AllTimed threads (c + 1) clusters
 
--- A change of a state k that settling makes sound again: lines and processors are still those of k, no thread that was eligible has another home, and names and threads agree.
+-- A change of a state k that settling makes sound again: lines and processors are still those of k, and names and objects agree.
 pub record IsGentle (k next : Plain) : Type 0 where
   pub scenario : next.scenario ≡ k.scenario
   pub present : next.present ≡ k.present
   pub places : length next.threads ≡ length k.threads
-  pub homes : (t : ℕ) → is_eligible k t ≡ true → (thread_at next t).home ≡ (thread_at k t).home
   pub threads : All (IsInBounds k.scenario (length k.clusters) k.present) next.threads
   pub lines : KeepsLines k.clusters next.clusters
   pub timers : AllTimed next.threads 0 next.clusters
-  pub named : AreNamed next.tasks next.threads
+  pub named : AreNamed next.table next.threads
