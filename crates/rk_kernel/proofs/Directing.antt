@@ -7,6 +7,7 @@ use Rattle.rk_model.specs.declared.entry.Answer.{Answer}
 use Rattle.rk_model.specs.declared.entry.Reply.{Reply}
 use Rattle.rk_model.specs.declared.state.Thread.{Thread}
 use Rattle.rk_model.specs.State.{Plain, no_thread, thread_at, put_thread, op_at}
+use Rattle.rk_model.specs.Tasks.{has_begun}
 use Rattle.rk_model.specs.Outcomes.{Outcome, answer_of, changed, concluded, after_outcome}
 use Rattle.rk_model.specs.Steps.{directive, back, action_on, action}
 use Rattle.rk_kernel.specs.Calls.{IsActing, IsCaller}
@@ -16,19 +17,19 @@ use Rattle.rk_model.specs.Limits.{AreRunnable}
 use Rattle.rk_kernel.proofs.Gentle.{gentle_same, gentle_put, gentle_go_on, Stays}
 use Rattle.rk_kernel.proofs.Fair.{IsFair, fair_changed, fair_after}
 use Rattle.rk_model.proofs.Indices.{nth-with_same}
-use Rattle.rk_kernel.proofs.Tasking.{create_fair, ident_fair, start_fair, suspend_fair, resume_fair, set_priority_fair, delete_fair, exit_fair, wake_after_fair}
+use Rattle.rk_kernel.proofs.Tasking.{task_create_fair, task_ident_fair, task_start_fair, task_suspend_fair, task_resume_fair, task_set_priority_fair, task_delete_fair, task_exit_fair, task_wake_after_fair}
 
 -- each directive is fair
 line_fair : (k : Plain) (t : ℕ) (op : Op) → IsCaller k t → IsFair k t (directive k t (Some op))
-line_fair k t (TaskCreate name prio var) caller = create_fair k t name.bits prio caller
-line_fair k t (TaskIdent name var) caller = ident_fair k t name.bits caller
-line_fair k t (TaskStart id body) caller = start_fair k t id body caller
-line_fair k t (TaskSuspend id) caller = suspend_fair k t id caller
-line_fair k t (TaskResume id) caller = resume_fair k t id caller
-line_fair k t (TaskSetPriority id prio var) caller = set_priority_fair k t id prio caller
-line_fair k t (TaskDelete id) caller = delete_fair k t id caller
-line_fair k t (TaskWakeAfter n) caller = wake_after_fair k t n caller
-line_fair k t _ caller = exit_fair k t caller.acts caller.returns_not
+line_fair k t (TaskCreate name prio var) caller = task_create_fair k t name.bits prio caller
+line_fair k t (TaskIdent name var) caller = task_ident_fair k t name.bits caller
+line_fair k t (TaskStart id body) caller = task_start_fair k t id body caller
+line_fair k t (TaskSuspend id) caller = task_suspend_fair k t id caller
+line_fair k t (TaskResume id) caller = task_resume_fair k t id caller
+line_fair k t (TaskSetPriority id prio var) caller = task_set_priority_fair k t id prio caller
+line_fair k t (TaskDelete id) caller = task_delete_fair k t id caller
+line_fair k t (TaskWakeAfter n) caller = task_wake_after_fair k t n caller
+line_fair k t _ caller = task_exit_fair k t caller.acts caller.returns_not
 
 -- what an action owes to the state that settles: before the thread goes on, and after
 pub record IsDone (k : Plain) (t : ℕ) (o : Outcome) : Type 0 where
@@ -37,7 +38,7 @@ pub record IsDone (k : Plain) (t : ℕ) (o : Outcome) : Type 0 where
 
 line_done : (k : Plain) (t : ℕ) (o : Option Op) → IsActing k t → (thread_at k t).finished ≡ None → (IsSome o → (thread_at k t).line ≤ 1000) → IsDone k t (directive k t o)
 line_done k t None acts returns_not line =
-    let fair = exit_fair k t acts returns_not in
+    let fair = task_exit_fair k t acts returns_not in
     record { changed = fair.does.1; after = fair.does.1 }
 line_done k t (Some op) acts returns_not line =
     let caller : IsCaller k t = record { acts = acts; line = line refl; returns_not = returns_not } in
@@ -50,10 +51,11 @@ back_done k t reply acts returns =
     let b = bounds_at k t acts.sound in
     let thread : Thread = record (thread_at k t) { finished = None } in
     let free : is_in_call thread.wait thread.finished ≡ false = rw acts.waits_not refl in
+    let begun : has_begun thread.life ≡ true = ap has_begun acts.started in
     let low : thread.line ≤ 1000 = b.calling (rw (acts.waits_not, returns) refl) in
-    let gentle = gentle_put k k t thread (gentle_same k acts.sound) refl (λ w. w) refl (record { home = b.home; line = b.line; working = b.working; calling = λ w. absurd (false≢true (rw free at w)); apart = λ _. free; acts = b.acts; idle = λ _. free; computed = b.computed }) in
+    let gentle = gentle_put k k t thread (gentle_same k acts.sound) refl (λ w. w) begun begun (record { home = b.home; line = b.line; working = b.working; calling = λ w. absurd (false≢true (rw free at w)); apart = λ _. free; acts = b.acts; idle = λ _. free; computed = b.computed }) in
     let here = nth-with_same no_thread thread k.threads t acts.low (omega (arith, acts.high, acts.sound.places)) in
-    let stays : Stays k (put_thread k t thread) t = record { gentle = gentle; line = rw here low; free = rw here free } in
+    let stays : Stays k (put_thread k t thread) t = record { gentle = gentle; lives = rw here begun; line = rw here low; free = rw here free } in
     record { changed = gentle; after = gentle_go_on k (put_thread k t thread) t reply.out acts.sound stays }
 
 action_on_done : (k : Plain) (t : ℕ) (finished : Option Reply) → (thread_at k t).finished ≡ finished → IsActing k t → IsDone k t (action_on k t finished)
@@ -67,7 +69,7 @@ action_done k t acts = action_on_done k t (thread_at k t).finished refl acts
 
 -- each line of a body is fair
 pub op_fair : (k : Plain) (t : ℕ) → IsActing k t → (thread_at k t).finished ≡ None → (o : Option Op) → op_at k.scenario (thread_at k t).body (thread_at k t).line ≡ o → IsFair k t (directive k t o)
-op_fair k t acts returns_not None e = exit_fair k t acts returns_not
+op_fair k t acts returns_not None e = task_exit_fair k t acts returns_not
 op_fair k t acts returns_not (Some op) e =
     let line = line_in k.scenario.bodies (thread_at k t).body (thread_at k t).line acts.sound.bodies.short (rw e refl) in
     line_fair k t op (record { acts = acts; line = line; returns_not = returns_not })

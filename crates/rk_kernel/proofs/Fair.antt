@@ -10,8 +10,9 @@ use Rattle.rk_model.specs.declared.status.Status.{Status}
 use Rattle.rk_model.specs.declared.status.Status.TheVariants.{InvalidId}
 use Rattle.rk_model.specs.declared.scenario.Op.{Op}
 use Rattle.rk_model.specs.declared.ids.Class.{Class}
-use Rattle.rk_model.specs.Names.{Names, least_named}
-use Rattle.rk_model.specs.Objects.{on_free, on_named, ident}
+use Rattle.rk_model.specs.Names.{taken, least_named}
+use Rattle.rk_model.specs.Objects.{names_in, put_names, create_at, unless, create, on_named, ident}
+use Rattle.rk_model.specs.Tasks.{has_begun}
 use Rattle.rk_model.specs.Status.{status_code}
 use Rattle.rk_model.specs.State.{Plain, no_thread, thread_at, cluster_at, op_at}
 use Rattle.rk_model.specs.Timers.{times_armed, arm}
@@ -54,28 +55,36 @@ fair_gone k t status next good gentle = record { does = (good, gentle) }
 
 -- a caller that changed nothing can go on
 pub stays_same : (k : Plain) (t : ℕ) → IsCaller k t → Stays k k t
-stays_same k t caller = record { gentle = gentle_same k caller.acts.sound; line = caller.line; free = rw (caller.acts.waits_not, caller.returns_not) refl }
+stays_same k t caller = record { gentle = gentle_same k caller.acts.sound; lives = ap has_begun caller.acts.started; line = caller.line; free = rw (caller.acts.waits_not, caller.returns_not) refl }
 
 pub fair_found : (k : Plain) (t : ℕ) (found : Option ℕ) (act : ℕ → Outcome) → ((u : ℕ) → found ≡ Some u → IsFair k t (act u)) → IsFair k t (on_found found act)
 fair_found k t None act fair = fair_refused k t InvalidId
 fair_found k t (Some u) act fair = fair u refl
 
--- an object of any class is made with a free index
-pub fair_free : (k : Plain) (t : ℕ) (class : Class) (free : List ℕ) (make : ℕ → List ℕ → Plain) → ((index : ℕ) (rest : List ℕ) → free ≡ index ∷ rest → Stays k (make index rest) t) → IsFair k t (on_free class free make)
-fair_free k t class [] make stays = fair_refused k t _
-fair_free k t class (index ∷ rest) make stays = fair_done k t _ _ _ _ refl (stays index rest refl)
+pub fair_if : (k : Plain) (t : ℕ) (b : Bool) (x y : Outcome) → (b ≡ true → IsFair k t x) → (b ≡ false → IsFair k t y) → IsFair k t (cond b x y)
+fair_if k t true x y held failed = held refl
+fair_if k t false x y held failed = failed refl
 
-fair_named : (k : Plain) (t : ℕ) (class : Class) (found : Option ℕ) → IsCaller k t → IsFair k t (on_named class found k)
+fair_at : (k : Plain) (t : ℕ) (class : Class) (free : List ℕ) (name : ℕ) (put : ℕ → Plain → Plain) → ((index : ℕ) (rest : List ℕ) → free ≡ index ∷ rest → Stays k (put index (put_names k class (taken (names_in k class) index rest name))) t) → IsFair k t (create_at k class free name put)
+fair_at k t class [] name put stays = fair_refused k t _
+fair_at k t class (index ∷ rest) name put stays = fair_done k t _ _ _ _ refl (stays index rest refl)
+
+fair_unless : (k : Plain) (t : ℕ) (refusal : Option Status) (o : Outcome) → IsFair k t o → IsFair k t (unless refusal o)
+fair_unless k t None o fair = fair
+fair_unless k t (Some status) o fair = fair_refused k t status
+
+-- an object of any class is made
+pub fair_create : (k : Plain) (t : ℕ) (class : Class) (name : ℕ) (refusal : Option Status) (put : ℕ → Plain → Plain) → ((index : ℕ) (rest : List ℕ) → (names_in k class).free ≡ index ∷ rest → Stays k (put index (put_names k class (taken (names_in k class) index rest name))) t) → IsFair k t (create k class name refusal put)
+fair_create k t class name refusal put stays =
+    fair_if k t (eqb name 0) _ _ (λ _. fair_refused k t _) (λ _. fair_unless k t refusal _ (fair_at k t class (names_in k class).free name put stays))
+
+fair_named : (k : Plain) (t : ℕ) (class : Class) (found : Option ℕ) → IsCaller k t → IsFair k t (on_named k class found)
 fair_named k t class None caller = fair_refused k t _
 fair_named k t class (Some index) caller = fair_done k t _ _ _ _ refl (stays_same k t caller)
 
 -- and named
-pub fair_ident : (k : Plain) (t : ℕ) (class : Class) (name : ℕ) (names : Names) → IsCaller k t → IsFair k t (ident class name names k)
-fair_ident k t class name names caller = fair_named k t class (least_named name names.live) caller
-
-pub fair_if : (k : Plain) (t : ℕ) (b : Bool) (x y : Outcome) → (b ≡ true → IsFair k t x) → (b ≡ false → IsFair k t y) → IsFair k t (cond b x y)
-fair_if k t true x y held failed = held refl
-fair_if k t false x y held failed = failed refl
+pub fair_ident : (k : Plain) (t : ℕ) (class : Class) (name : ℕ) → IsCaller k t → IsFair k t (ident k class name)
+fair_ident k t class name caller = fair_named k t class (least_named name (names_in k class).live) caller
 
 -- the change of a fair outcome is gentle
 pub fair_changed : (k : Plain) (t : ℕ) (o : Outcome) → IsCaller k t → IsFair k t o → IsGentle k (changed k o)
@@ -110,7 +119,7 @@ gentle_limited k t wait ticks caller =
     let b = bounds_at k t acts.sound in
     let thread : Thread = record (thread_at k t) { wait = Some wait } in
     let bounds : IsInBounds k.scenario (length k.clusters) k.present thread = record { home = b.home; line = b.line; working = b.working; calling = λ _. caller.line; apart = λ w. absurd (omega (arith, w, acts.works_not)); acts = b.acts; idle = λ idle. absurd (false≢true (sym idle ∙ ap is_started acts.started)); computed = b.computed } in
-    let begun = gentle_put k k t thread (gentle_same k acts.sound) refl (λ _. refl) refl bounds in
+    let begun = gentle_put k k t thread (gentle_same k acts.sound) refl (λ _. refl) (ap has_begun acts.started) (ap has_begun acts.started) bounds in
     let here = nth-with_same no_thread thread k.threads t acts.low (omega (arith, acts.high, acts.sound.places)) in
     let waits : waits_in (begin_wait k t wait).threads (thread_at k t).home t ≡ true = rw here (home_is (thread_at k t).home) in
     by (eqb ticks 0) begun (gentle_arm k (begin_wait k t wait) (thread_at k t).home t (k.present + ticks) begun waits (none_armed k t acts))

@@ -9,7 +9,9 @@ use Rattle.rk_model.specs.declared.state.Armed.{Armed}
 use Rattle.rk_model.specs.declared.state.Armer.{Armer}
 use Rattle.rk_model.specs.declared.state.Armer.TheVariants.{Thread as OfThread}
 use Rattle.rk_model.specs.State.{Plain, ClusterState, no_cluster, thread_at, cluster_at}
-use Rattle.rk_model.specs.Settling.{settled_from}
+use Rattle.rk_model.specs.Priorities.{standings}
+use Rattle.rk_parts.specs.Settled.{settled_from}
+use Rattle.rk_parts.proofs.Settling.{settle_each}
 use Rattle.rk_model.specs.Timers.{is_same, times_armed, without_timer, due_at, is_due, without_due, take_due, cancel}
 use Rattle.rk_model.specs.Ticks.{rung, expire, fire, fire_each}
 use Rattle.rk_parts.specs.Firing.{head_of, due_now, FiresFirst}
@@ -54,10 +56,10 @@ one_gone tick t (timer ∷ timers) xs x whose due = by (is_due tick timer) due (
   by false due more = omega (arith, more due)
 
 -- settling leaves the timers alone
-timers-settled_from : (move : ℕ → Move) (key : ℕ → ℕ) (threads : List Thread) (c : ℕ) (clusters : List ClusterState) (i : ℕ) → (get_or (settled_from move key threads c clusters) i no_cluster).timers ≡ (get_or clusters i no_cluster).timers
-timers-settled_from move key threads c [] i = refl
-timers-settled_from move key threads c (cluster ∷ clusters) zero = refl
-timers-settled_from move key threads c (cluster ∷ clusters) (suc i) = timers-settled_from move key threads (c + 1) clusters i
+timers-settled_from : (move : ℕ → ℕ → Move) (key : ℕ → ℕ → ℕ) (n c : ℕ) (clusters : List ClusterState) (i : ℕ) → (get_or (settled_from move key n c clusters) i no_cluster).timers ≡ (get_or clusters i no_cluster).timers
+timers-settled_from move key n c [] i = refl
+timers-settled_from move key n c (cluster ∷ clusters) zero = refl
+timers-settled_from move key n c (cluster ∷ clusters) (suc i) = timers-settled_from move key n (c + 1) clusters i
 
 -- to cancel the timer of one that has none changes nothing
 without_none : (who : Armer) (timers : List Armed) → times_armed who timers ≡ 0 → without_timer who timers ≡ timers
@@ -103,7 +105,7 @@ rung_clusters k c xs x (OfThread t) whose sound within due =
 pub due_now-fire : (k : Plain) (c : ℕ) (xs : List Armed) (x : Armed) → IsSound k → c < length k.clusters → due_now k c ≡ x ∷ xs → due_now (fire k c x) c ≡ xs
 due_now-fire k c xs x sound within due =
     let next = expire k c x.who in
-    let settled = timers-settled_from _ _ next.threads 0 next.clusters c in
+    let settled : (cluster_at (fire k c x) c).timers ≡ (cluster_at next c).timers = ap (λ (n : Plain). (cluster_at n c).timers) (settle_each (standings k) next []) ∙ timers-settled_from _ _ (length next.threads) 0 next.clusters c in
     let here : (cluster_at next c).timers ≡ without_due k.present (cluster_at k c).timers = ap (λ (cs : List ClusterState). (get_or cs c no_cluster).timers) (rung_clusters k c xs x x.who refl sound within due) ∙ taken_timers k c within in
     ap (due_at (fire k c x).present) (settled ∙ here) ∙ ap (λ n. due_at n (without_due k.present (cluster_at k c).timers)) (rung_present (take_due k c) x.who) ∙ rest_due k.present (cluster_at k c).timers xs x due
   where

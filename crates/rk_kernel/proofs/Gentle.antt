@@ -9,11 +9,14 @@ use Rattle.rk_model.specs.declared.state.Wait.{Wait}
 use Rattle.rk_model.specs.declared.state.Armed.{Armed}
 use Rattle.rk_model.specs.declared.state.Armer.TheVariants.{Thread as OfThread}
 use Rattle.rk_model.specs.Lists.{nth, with_nth}
-use Rattle.rk_model.specs.Names.{Names}
+use Rattle.rk_model.specs.Names.{Table}
 use Rattle.rk_model.specs.State.{Plain, no_thread, thread_at, put_thread, cluster_at, put_cluster}
 use Rattle.rk_model.specs.Timers.{times_armed, without_timer, arm, cancel}
 use Rattle.rk_model.specs.Outcomes.{stored_vars, finished, go_on, end_wait}
-use Rattle.rk_model.specs.Tasks.{is_live}
+use Rattle.rk_model.specs.declared.state.Life.{Life}
+use Rattle.rk_model.specs.declared.state.Life.TheVariants.{Absent, Dormant, Started, Ended}
+use Rattle.rk_model.specs.Priorities.{is_started}
+use Rattle.rk_model.specs.Tasks.{has_begun}
 use Rattle.rk_parts.specs.Named.{AreNamed}
 use Rattle.rk_parts.proofs.Tests.{and_front, and_back, equal_test}
 use Rattle.rk_kernel.specs.Sound.{IsSound, IsInBounds, IsGentle, waits_in, is_waiting, is_in_call}
@@ -28,7 +31,6 @@ gentle_same k sound = record {
   scenario = refl;
   present = refl;
   places = refl;
-  homes = λ u _. refl;
   threads = sound.threads;
   lines = keeps_same k.clusters;
   timers = timed_sound k 0 k.clusters sound.clusters;
@@ -54,26 +56,24 @@ waits_put threads t thread home more d u is = by (eqb u t) refl where
       let other : u ≢ t = λ q. false≢true (sym e ∙ equal_test u t q) in
       ap (λ (x : Thread). (eqb x.home d) && is_waiting x.wait) (nth-with_other no_thread thread threads t u other) ∙ is
 
--- to put back a thread within its bounds, with its home, which lives as before, and waits where it waited
-pub gentle_put : (k m : Plain) (t : ℕ) (thread : Thread) → IsGentle k m → thread.home ≡ (thread_at m t).home → (is_waiting (thread_at m t).wait ≡ true → is_waiting thread.wait ≡ true) → is_live thread.life ≡ is_live (thread_at m t).life → IsInBounds k.scenario (length k.clusters) k.present thread → IsGentle k (put_thread m t thread)
-gentle_put k m t thread gentle home more life bounds = record {
+-- to put back a live thread, where one lives, within its bounds, with its home, which waits where it waited
+pub gentle_put : (k m : Plain) (t : ℕ) (thread : Thread) → IsGentle k m → thread.home ≡ (thread_at m t).home → (is_waiting (thread_at m t).wait ≡ true → is_waiting thread.wait ≡ true) → has_begun (thread_at m t).life ≡ true → has_begun thread.life ≡ true → IsInBounds k.scenario (length k.clusters) k.present thread → IsGentle k (put_thread m t thread)
+gentle_put k m t thread gentle home more lives life bounds = record {
   scenario = gentle.scenario;
   present = gentle.present;
   places = length-with_nth thread m.threads t ∙ gentle.places;
-  homes = λ u h. nth-with_kept (λ (x : Thread). x.home) no_thread thread m.threads t u home ∙ gentle.homes u h;
   threads = All-with_nth (IsInBounds k.scenario (length k.clusters) k.present) thread m.threads t bounds gentle.threads;
   lines = gentle.lines;
   timers = timed_kept m.threads (with_nth m.threads t thread) 0 m.clusters (waits_put m.threads t thread home more) gentle.timers;
-  named = named_put m.tasks m.threads t thread life gentle.named;
+  named = named_put m.table m.threads t thread lives life gentle.named;
 }
 
--- to put back a thread that has no timer, within its bounds and with its home, and names that agree with the threads
-pub gentle_unarmed : (k m : Plain) (t : ℕ) (thread : Thread) (tasks : Names) → IsGentle k m → AllUnarmed t m.clusters → thread.home ≡ (thread_at m t).home → AreNamed tasks (with_nth m.threads t thread) → IsInBounds k.scenario (length k.clusters) k.present thread → IsGentle k (record (put_thread m t thread) { tasks = tasks })
-gentle_unarmed k m t thread tasks gentle none home named bounds = record {
+-- to put back what has no timer, within its bounds, and names that agree with the objects
+pub gentle_unarmed : (k m : Plain) (t : ℕ) (thread : Thread) (table : Table) → IsGentle k m → AllUnarmed t m.clusters → AreNamed table (with_nth m.threads t thread) → IsInBounds k.scenario (length k.clusters) k.present thread → IsGentle k (record (put_thread m t thread) { table = table })
+gentle_unarmed k m t thread table gentle none named bounds = record {
   scenario = gentle.scenario;
   present = gentle.present;
   places = length-with_nth thread m.threads t ∙ gentle.places;
-  homes = λ u h. nth-with_kept (λ (x : Thread). x.home) no_thread thread m.threads t u home ∙ gentle.homes u h;
   threads = All-with_nth (IsInBounds k.scenario (length k.clusters) k.present) thread m.threads t bounds gentle.threads;
   lines = gentle.lines;
   timers = timed_unarmed m.threads (with_nth m.threads t thread) t 0 m.clusters none (λ d u other is. ap (λ (x : Thread). (eqb x.home d) && is_waiting x.wait) (nth-with_other no_thread thread m.threads t u other) ∙ is) gentle.timers;
@@ -86,7 +86,6 @@ gentle_fewer k m h timers gentle fewer = record {
   scenario = gentle.scenario;
   present = gentle.present;
   places = gentle.places;
-  homes = gentle.homes;
   threads = gentle.threads;
   lines = keeps_timers k.clusters m.clusters h timers gentle.lines;
   timers = timed_fewer m.threads 0 h m.clusters timers fewer gentle.timers;
@@ -112,12 +111,18 @@ gentle_arm k m h t due gentle waits none = record {
   scenario = gentle.scenario;
   present = gentle.present;
   places = gentle.places;
-  homes = gentle.homes;
   threads = gentle.threads;
   lines = keeps_timers k.clusters m.clusters h _ gentle.lines;
   timers = timed_armed m.threads t due h 0 h m.clusters (omega arith) waits none gentle.timers;
   named = gentle.named;
 }
+
+-- a life of one in a directive that waits has begun
+pub in_call_begun : (life : Life) (calls : Bool) → calls ≡ true → (is_started life ≡ false → calls ≡ false) → has_begun life ≡ true
+in_call_begun Absent calls is idle = absurd (false≢true (sym (idle refl) ∙ is))
+in_call_begun Dormant calls is idle = refl
+in_call_begun Started calls is idle = refl
+in_call_begun Ended calls is idle = refl
 
 waits_calls : (wait : Option Wait) (reply : Option Reply) → is_waiting wait ≡ true → is_in_call wait reply ≡ true
 waits_calls None reply h = absurd (false≢true h)
@@ -130,12 +135,14 @@ gentle_end_wait k m t reply sound gentle waits =
     let b = bounds_in k m t sound gentle in
     let calls = waits_calls (thread_at m t).wait (thread_at m t).finished waits in
     let thread : Thread = record (thread_at m t) { wait = None; finished = Some reply } in
-    gentle_unarmed k (cancel m h (OfThread t)) t thread m.tasks (gentle_cancel k m h t gentle) (cancelled k m t gentle) refl (named_put m.tasks m.threads t thread refl gentle.named)
+    let begun = in_call_begun (thread_at m t).life (is_in_call (thread_at m t).wait (thread_at m t).finished) calls b.idle in
+    gentle_unarmed k (cancel m h (OfThread t)) t thread m.table (gentle_cancel k m h t gentle) (cancelled k m t gentle) (named_put m.table m.threads t thread begun begun gentle.named)
     (record { home = b.home; line = b.line; working = b.working; calling = λ _. b.calling calls; apart = λ w. absurd (false≢true (sym (b.apart w) ∙ calls)); acts = b.acts; idle = λ s. absurd (false≢true (sym (b.idle s) ∙ calls)); computed = b.computed })
 
--- A gentle change after which a thread can still go on: it has a line, and is in no directive that waits.
+-- A gentle change after which a thread can still go on: it lives, has a line, and is in no directive that waits.
 pub record Stays (k next : Plain) (t : ℕ) : Type 0 where
   pub gentle : IsGentle k next
+  pub lives : has_begun (thread_at next t).life ≡ true
   pub line : (thread_at next t).line ≤ 1000
   pub free : is_in_call (thread_at next t).wait (thread_at next t).finished ≡ false
 
@@ -143,16 +150,17 @@ pub record Stays (k next : Plain) (t : ℕ) : Type 0 where
 pub gentle_go_on : (k m : Plain) (t out : ℕ) → IsSound k → Stays k m t → IsGentle k (go_on m t out)
 gentle_go_on k m t out sound stays =
     let b = bounds_in k m t sound stays.gentle in
-    gentle_put k m t (finished m.scenario (thread_at m t) out) stays.gentle refl (λ w. w) refl
+    gentle_put k m t (finished m.scenario (thread_at m t) out) stays.gentle refl (λ w. w) stays.lives stays.lives
     (subst (λ (s : Scenario). IsInBounds k.scenario (length k.clusters) k.present (finished s (thread_at m t) out)) (sym stays.gentle.scenario)
     (arrived_bounds k.scenario (length k.clusters) k.present (record (thread_at m t) { vars = stored_vars k.scenario (thread_at m t) out }) ((thread_at m t).line + 1) sound.bodies b.home (omega (arith, stays.line)) b.computed stays.free))
 
--- A thread still can go on where one is put back within its bounds that has the same home, line, wait and reply, and lives as before.
-pub stays_put : (k m : Plain) (t u : ℕ) (thread : Thread) → Stays k m t → thread.home ≡ (thread_at m u).home → thread.line ≡ (thread_at m u).line → thread.wait ≡ (thread_at m u).wait → thread.finished ≡ (thread_at m u).finished → is_live thread.life ≡ is_live (thread_at m u).life → IsInBounds k.scenario (length k.clusters) k.present thread → Stays k (put_thread m u thread) t
-stays_put k m t u thread stays home line wait reply life bounds =
+-- A thread still can go on where a live one is put back, where one lives, within its bounds, that has the same home, line, wait and reply.
+pub stays_put : (k m : Plain) (t u : ℕ) (thread : Thread) → Stays k m t → thread.home ≡ (thread_at m u).home → thread.line ≡ (thread_at m u).line → thread.wait ≡ (thread_at m u).wait → thread.finished ≡ (thread_at m u).finished → has_begun (thread_at m u).life ≡ true → has_begun thread.life ≡ true → IsInBounds k.scenario (length k.clusters) k.present thread → Stays k (put_thread m u thread) t
+stays_put k m t u thread stays home line wait reply lives life bounds =
     let kept : (nth no_thread (with_nth m.threads u thread) t).line ≡ (thread_at m t).line = nth-with_kept (λ (x : Thread). x.line) no_thread thread m.threads u t line in
     record {
-      gentle = gentle_put k m u thread stays.gentle home (λ w. ap is_waiting wait ∙ w) life bounds;
+      gentle = gentle_put k m u thread stays.gentle home (λ w. ap is_waiting wait ∙ w) lives life bounds;
+      lives = nth-with_kept (λ (x : Thread). has_begun x.life) no_thread thread m.threads u t (life ∙ sym lives) ∙ stays.lives;
       line = omega (arith, kept, stays.line);
       free = nth-with_kept (λ (x : Thread). is_in_call x.wait x.finished) no_thread thread m.threads u t (rw (wait, reply) refl) ∙ stays.free;
     }
@@ -163,6 +171,7 @@ stays_apart k m next t u thread stays other put gentle =
     let same : thread_at next t ≡ thread_at m t = ap (λ (ts : List Thread). nth no_thread ts t) put ∙ nth-with_other no_thread thread m.threads u t other in
     record {
       gentle = gentle;
+      lives = ap (λ (x : Thread). has_begun x.life) same ∙ stays.lives;
       line = subst (λ (x : Thread). x.line ≤ 1000) (sym same) stays.line;
       free = ap (λ (x : Thread). is_in_call x.wait x.finished) same ∙ stays.free;
     }

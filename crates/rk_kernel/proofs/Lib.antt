@@ -12,7 +12,7 @@ pub mod Beginning
 pub mod Openings
 pub mod Ready
 pub mod Passing
-pub mod Apart
+pub mod Charging
 pub mod Firings
 pub mod Runs
 pub mod Directing

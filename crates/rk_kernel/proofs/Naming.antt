@@ -1,34 +1,59 @@
--- Names and threads agree, while tasks are made and removed.
+-- Names and objects agree, while tasks are made and removed.
 use Rattle.std.proofs.Common.{◌≡◌, ◌≢◌, ℕ, ◌+◌, ◌≤◌, List, [], ◌∷◌, ◌++◌, Bool, true, false, cond, ◌==◌, ◌&&◌, not, nat_le, length, arith, refl, sym, ap, ◌∙◌}
 use Rattle.std.specs.List.{filter}
 use Rattle.std.proofs.lemmas.List.{map_push}
 use Rattle.std.proofs.lemmas.Bool.{false≢true}
 use Rattle.std.proofs.lemmas.Bool.Decides.{nat_tests}
+use Rattle.rk_model.specs.declared.ids.Class.{Class}
+use Rattle.rk_model.specs.declared.ids.Class.TheVariants.{Task}
 use Rattle.rk_model.specs.declared.ids.Named.{Named}
 use Rattle.rk_model.specs.declared.state.Thread.{Thread}
-use Rattle.rk_model.specs.Lists.{nth, with_nth, times}
-use Rattle.rk_model.specs.Names.{Names, indices, lives, taken, given_back}
+use Rattle.rk_model.specs.Lists.{has, nth, with_nth, times}
+use Rattle.rk_model.specs.Names.{Names, Table, names_of, with_names, indices, lives, taken, given_back}
 use Rattle.rk_model.specs.State.{no_thread}
-use Rattle.rk_model.specs.Tasks.{is_live}
-use Rattle.rk_model.proofs.Counts.{same_either_way, times-append, has_times}
+use Rattle.rk_model.specs.Tasks.{has_begun, begun_in}
+use Rattle.rk_model.proofs.Counts.{same_either_way, times-append, has_times, has_none}
 use Rattle.rk_ids.specs.Objects.{IsSplit}
 use Rattle.rk_ids.proofs.Splits.{live_within, split_taken, split_given}
 use Rattle.rk_parts.specs.Named.{AreNamed}
 use Rattle.rk_model.proofs.Indices.{nth-with_same, nth-with_other, nth-with_kept}
 
--- to put back a thread that lives as before
-pub named_put : (tasks : Names) (threads : List Thread) (t : ℕ) (thread : Thread) → is_live thread.life ≡ is_live (nth no_thread threads t).life → AreNamed tasks threads → AreNamed tasks (with_nth threads t thread)
-named_put tasks threads t thread life named = record {
+-- whether the thread of an index has begun
+abbrev begun_at : List Thread → ℕ → Bool
+begun_at threads t = has_begun (nth no_thread threads t).life
+
+lives_by : (names : Names) (index : ℕ) (b : Bool) → times index (indices names.live) ≡ cond b 1 0 → lives names index ≡ b
+lives_by names index true once = has_times index (indices names.live) (omega (arith, once))
+lives_by names index false none = has_none index (indices names.live) none
+
+-- an object lives where it has begun
+pub object_lives : (table : Table) (threads : List Thread) (class : Class) (index : ℕ) → AreNamed table threads → lives (names_of class table) index ≡ begun_in threads class index
+object_lives table threads class index named = lives_by (names_of class table) index (begun_in threads class index) (named.live class index)
+
+-- a task lives where its life has begun
+pub task_lives : (table : Table) (threads : List Thread) (index : ℕ) → AreNamed table threads → lives table.tasks index ≡ has_begun (nth no_thread threads index).life
+task_lives table threads index named = object_lives table threads Task index named
+
+-- a thread that lives is put back where one lives
+pub named_put : (table : Table) (threads : List Thread) (t : ℕ) (thread : Thread) → begun_at threads t ≡ true → has_begun thread.life ≡ true → AreNamed table threads → AreNamed table (with_nth threads t thread)
+named_put table threads t thread lives life named = record {
   split = named.split;
-  live = λ u. named.live u ∙ ap (λ b. cond b 1 0) (sym (nth-with_kept (λ (x : Thread). is_live x.life) no_thread thread threads t u life));
-}
+  live = λ class u. named.live class u ∙ ap (λ b. cond b 1 0) (sym (same class u));
+  blank = λ u none. (
+      let was : begun_at threads u ≡ false = sym (same Task u) ∙ none in
+      let other : u ≢ t = λ q. false≢true (sym was ∙ ap (begun_at threads) q ∙ lives) in
+      nth-with_other no_thread thread threads t u other ∙ named.blank u was);
+} where
+  same : (class : Class) (u : ℕ) → begun_in (with_nth threads t thread) class u ≡ begun_in threads class u
+  same Task u = nth-with_kept (λ (x : Thread). has_begun x.life) no_thread thread threads t u (life ∙ sym lives)
+  same class u = refl
 
 -- an index that is free: it is one of the 64, and no task of it lives
 pub record IsFree (tasks : Names) (threads : List Thread) (index : ℕ) : Type 0 where
   pub low : 1 ≤ index
   pub high : index ≤ 64
   pub unnamed : times index (indices tasks.live) ≡ 0
-  pub absent : is_live (nth no_thread threads index).life ≡ false
+  pub absent : has_begun (nth no_thread threads index).life ≡ false
 
 split_within : (i n : ℕ) (low high : Bool) → nat_le 1 i ≡ low → nat_le i 64 ≡ high → n + 1 ≤ cond (low && high) 1 0 → (1 ≤ i) × (i ≤ 64) × (n ≡ 0)
 split_within i n true true a b few =
@@ -50,33 +75,55 @@ first_within tasks index free split is =
     let w = split_within index (times index (indices tasks.live) + times index free) (nat_le 1 index) (nat_le index 64) refl refl (omega (arith, split index, more)) in
     (w.0, w.1, omega (arith, w.2))
 
-pub first_free : (tasks : Names) (threads : List Thread) (index : ℕ) (free : List ℕ) → AreNamed tasks threads → tasks.free ≡ index ∷ free → IsFree tasks threads index
-first_free tasks threads index free named is =
-    let w = first_within tasks index free named.split is in
-    record { low = w.0; high = w.1; unnamed = w.2; absent = not_live (is_live (nth no_thread threads index).life) _ (named.live index) w.2 }
+pub first_free : (table : Table) (threads : List Thread) (index : ℕ) (free : List ℕ) → AreNamed table threads → table.tasks.free ≡ index ∷ free → IsFree table.tasks threads index
+first_free table threads index free named is =
+    let w = first_within table.tasks index free (named.split Task) is in
+    record { low = w.0; high = w.1; unnamed = w.2; absent = not_live (begun_at threads index) _ (named.live Task index) w.2 }
 
 -- a task of an index from 1 to 64 that wasn't used lives then
-pub named_made : (tasks : Names) (threads : List Thread) (index : ℕ) (free : List ℕ) (name : ℕ) (thread : Thread) → AreNamed tasks threads → length threads ≡ 64 → tasks.free ≡ index ∷ free → is_live thread.life ≡ true → AreNamed (taken tasks index free name) (with_nth threads index thread)
-named_made tasks threads index free name thread named size is life =
-    let object : Named = record { index = index; name = record { bits = name } } in
-    let more : indices (tasks.live ++ object ∷ []) ≡ indices tasks.live ++ index ∷ [] = map_push (λ (x : Named). x.index) tasks.live object in
-    let count : (u : ℕ) → times u (indices (tasks.live ++ object ∷ [])) ≡ times u (indices tasks.live) + cond (index == u) 1 0 = λ u.
-    let e : times u (indices (tasks.live ++ object ∷ [])) ≡ times u (indices tasks.live) + times u (index ∷ []) = ap (times u) more ∙ times-append u (indices tasks.live) (index ∷ []) in omega (arith, e) in
-    record {
-      split = split_taken tasks.live tasks.free free index name named.split is;
-      live = λ u. count u ∙ by u (index == u) refl;
-    } where
-      by : (u : ℕ) (b : Bool) → (index == u) ≡ b → times u (indices tasks.live) + cond b 1 0 ≡ cond (is_live (nth no_thread (with_nth threads index thread) u).life) 1 0
-      by u true e =
-          let f = first_free tasks threads index free named is in
-          let same : index ≡ u = grind (arith, nat_tests, e) in
-          let none : times u (indices tasks.live) ≡ 0 = ap (λ v. times v (indices tasks.live)) (sym same) ∙ f.unnamed in
-          let now : is_live (nth no_thread (with_nth threads index thread) u).life ≡ true = ap (λ v. is_live (nth no_thread (with_nth threads index thread) v).life) (sym same) ∙ ap (λ (x : Thread). is_live x.life) (nth-with_same no_thread thread threads index f.low (omega (arith, f.high, size))) ∙ life in
-          rw now (omega (arith, none))
-      by u false e =
-          let other : u ≢ index = λ q. false≢true (sym e ∙ grind (arith, nat_tests, q)) in
-          let now : is_live (nth no_thread (with_nth threads index thread) u).life ≡ is_live (nth no_thread threads u).life = ap (λ (x : Thread). is_live x.life) (nth-with_other no_thread thread threads index u other) in
-          rw now (omega (arith, named.live u))
+pub named_made : (table : Table) (threads : List Thread) (index : ℕ) (free : List ℕ) (name : ℕ) (thread : Thread) → AreNamed table threads → length threads ≡ 64 → table.tasks.free ≡ index ∷ free → has_begun thread.life ≡ true → AreNamed (with_names Task (taken table.tasks index free name) table) (with_nth threads index thread)
+named_made table threads index free name thread named size is life = record { split = split; live = live; blank = blank } where
+  now : begun_at (with_nth threads index thread) index ≡ true
+  now =
+      let f = first_free table threads index free named is in
+      ap (λ (x : Thread). has_begun x.life) (nth-with_same no_thread thread threads index f.low (omega (arith, f.high, size))) ∙ life
+
+  others : (u : ℕ) → u ≢ index → nth no_thread (with_nth threads index thread) u ≡ nth no_thread threads u
+  others u other = nth-with_other no_thread thread threads index u other
+
+  apart : (u : ℕ) → (index == u) ≡ false → u ≢ index
+  apart u e q = false≢true (sym e ∙ grind (arith, nat_tests, q))
+
+  split : (class : Class) → IsSplit (names_of class (with_names Task (taken table.tasks index free name) table))
+  split Task = split_taken table.tasks.live table.tasks.free free index name (named.split Task) is
+  split class = named.split class
+
+  count : (u : ℕ) → times u (indices (taken table.tasks index free name).live) ≡ times u (indices table.tasks.live) + cond (index == u) 1 0
+  count u =
+      let object : Named = record { index = index; name = record { bits = name } } in
+      let more : indices (table.tasks.live ++ object ∷ []) ≡ indices table.tasks.live ++ index ∷ [] = map_push (λ (x : Named). x.index) table.tasks.live object in
+      let e : times u (indices (table.tasks.live ++ object ∷ [])) ≡ times u (indices table.tasks.live) + times u (index ∷ []) = ap (times u) more ∙ times-append u (indices table.tasks.live) (index ∷ []) in
+      omega (arith, e)
+
+  by : (u : ℕ) (b : Bool) → (index == u) ≡ b → times u (indices table.tasks.live) + cond b 1 0 ≡ cond (begun_at (with_nth threads index thread) u) 1 0
+  by u true e =
+      let f = first_free table threads index free named is in
+      let same : index ≡ u = grind (arith, nat_tests, e) in
+      let none : times u (indices table.tasks.live) ≡ 0 = ap (λ v. times v (indices table.tasks.live)) (sym same) ∙ f.unnamed in
+      let here : begun_at (with_nth threads index thread) u ≡ true = ap (begun_at (with_nth threads index thread)) (sym same) ∙ now in
+      rw here (omega (arith, none))
+  by u false e =
+      let here : begun_at (with_nth threads index thread) u ≡ begun_at threads u = ap (λ (x : Thread). has_begun x.life) (others u (apart u e)) in
+      rw here (omega (arith, named.live Task u))
+
+  live : (class : Class) (u : ℕ) → times u (indices (names_of class (with_names Task (taken table.tasks index free name) table)).live) ≡ cond (begun_in (with_nth threads index thread) class u) 1 0
+  live Task u = count u ∙ by u (index == u) refl
+  live class u = named.live class u
+
+  blank : (u : ℕ) → begun_at (with_nth threads index thread) u ≡ false → nth no_thread (with_nth threads index thread) u ≡ no_thread
+  blank u none =
+      let other : u ≢ index = λ q. false≢true (sym none ∙ ap (begun_at (with_nth threads index thread)) q ∙ now) in
+      others u other ∙ named.blank u (sym (ap (λ (x : Thread). has_begun x.life) (others u other)) ∙ none)
 
 -- an index at which a thread lives is one of the 64, and that of a live task
 pub record IsLive (tasks : Names) (index : ℕ) : Type 0 where
@@ -84,11 +131,10 @@ pub record IsLive (tasks : Names) (index : ℕ) : Type 0 where
   pub high : index ≤ 64
   pub named : lives tasks index ≡ true
 
-pub live_named : (tasks : Names) (threads : List Thread) (index : ℕ) → AreNamed tasks threads → is_live (nth no_thread threads index).life ≡ true → IsLive tasks index
-live_named tasks threads index named life =
-    let one : times index (indices tasks.live) ≡ 1 = named.live index ∙ ap (λ b. cond b 1 0) life in
-    let is = has_times index (indices tasks.live) (omega (arith, one)) in
-    let w = live_within tasks index named.split is in
+pub live_named : (table : Table) (threads : List Thread) (index : ℕ) → AreNamed table threads → has_begun (nth no_thread threads index).life ≡ true → IsLive table.tasks index
+live_named table threads index named life =
+    let is = task_lives table threads index named ∙ life in
+    let w = live_within table.tasks index (named.split Task) is in
     record { low = w.0; high = w.1; named = is }
 
 -- the indices of all but one
@@ -96,20 +142,33 @@ indices_without : (v u : ℕ) (live : List Named) → times v (indices (filter (
 indices_without v u [] = same_either_way (u == v) 0
 indices_without v u (object ∷ live) = grind (arith, nat_tests, indices_without v u live)
 
--- a task that lived doesn't any more, and its index is free
-pub named_removed : (tasks : Names) (threads : List Thread) (u : ℕ) (thread : Thread) → AreNamed tasks threads → length threads ≡ 64 → is_live (nth no_thread threads u).life ≡ true → is_live thread.life ≡ false → AreNamed (given_back tasks u) (with_nth threads u thread)
-named_removed tasks threads u thread named size life gone =
-    record {
-      split = split_given tasks.live tasks.free u named.split (live_named tasks threads u named life).named;
-      live = λ v. indices_without v u tasks.live ∙ live_by v (u == v) refl;
-    } where
-      live_by : (v : ℕ) (b : Bool) → (u == v) ≡ b → cond b 0 (times v (indices tasks.live)) ≡ cond (is_live (nth no_thread (with_nth threads u thread) v).life) 1 0
-      live_by v true e =
-          let same : u ≡ v = grind (arith, nat_tests, e) in
-          let n = live_named tasks threads u named life in
-          let now : is_live (nth no_thread (with_nth threads u thread) v).life ≡ false = ap (λ w. is_live (nth no_thread (with_nth threads u thread) w).life) (sym same) ∙ ap (λ (x : Thread). is_live x.life) (nth-with_same no_thread thread threads u n.low (omega (arith, n.high, size))) ∙ gone in
-          rw now refl
-      live_by v false e =
-          let other : v ≢ u = λ q. false≢true (sym e ∙ grind (arith, nat_tests, q)) in
-          let now : is_live (nth no_thread (with_nth threads u thread) v).life ≡ is_live (nth no_thread threads v).life = ap (λ (x : Thread). is_live x.life) (nth-with_other no_thread thread threads u v other) in
-          rw now (named.live v)
+-- a task that lived doesn't any more, its index is free, and nothing is left of it
+pub named_removed : (table : Table) (threads : List Thread) (u : ℕ) → AreNamed table threads → length threads ≡ 64 → has_begun (nth no_thread threads u).life ≡ true → AreNamed (with_names Task (given_back table.tasks u) table) (with_nth threads u no_thread)
+named_removed table threads u named size life = record { split = split; live = live; blank = blank } where
+  here : nth no_thread (with_nth threads u no_thread) u ≡ no_thread
+  here = let n = live_named table threads u named life in nth-with_same no_thread no_thread threads u n.low (omega (arith, n.high, size))
+
+  others : (v : ℕ) → (u == v) ≡ false → nth no_thread (with_nth threads u no_thread) v ≡ nth no_thread threads v
+  others v e = nth-with_other no_thread no_thread threads u v (λ q. false≢true (sym e ∙ grind (arith, nat_tests, q)))
+
+  there : (v : ℕ) → (u == v) ≡ true → nth no_thread (with_nth threads u no_thread) v ≡ no_thread
+  there v e = let same : u ≡ v = grind (arith, nat_tests, e) in ap (nth no_thread (with_nth threads u no_thread)) (sym same) ∙ here
+
+  split : (class : Class) → IsSplit (names_of class (with_names Task (given_back table.tasks u) table))
+  split Task = split_given table.tasks.live table.tasks.free u (named.split Task) (live_named table threads u named life).named
+  split class = named.split class
+
+  by : (v : ℕ) (b : Bool) → (u == v) ≡ b → cond b 0 (times v (indices table.tasks.live)) ≡ cond (begun_at (with_nth threads u no_thread) v) 1 0
+  by v true e = let now : begun_at (with_nth threads u no_thread) v ≡ false = ap (λ (x : Thread). has_begun x.life) (there v e) in rw now refl
+  by v false e = let now : begun_at (with_nth threads u no_thread) v ≡ begun_at threads v = ap (λ (x : Thread). has_begun x.life) (others v e) in rw now (named.live Task v)
+
+  live : (class : Class) (v : ℕ) → times v (indices (names_of class (with_names Task (given_back table.tasks u) table)).live) ≡ cond (begun_in (with_nth threads u no_thread) class v) 1 0
+  live Task v = indices_without v u table.tasks.live ∙ by v (u == v) refl
+  live class v = named.live class v
+
+  blank_by : (v : ℕ) (b : Bool) → (u == v) ≡ b → begun_at (with_nth threads u no_thread) v ≡ false → nth no_thread (with_nth threads u no_thread) v ≡ no_thread
+  blank_by v true e none = there v e
+  blank_by v false e none = others v e ∙ named.blank v (sym (ap (λ (x : Thread). has_begun x.life) (others v e)) ∙ none)
+
+  blank : (v : ℕ) → begun_at (with_nth threads u no_thread) v ≡ false → nth no_thread (with_nth threads u no_thread) v ≡ no_thread
+  blank v none = blank_by v (u == v) refl none

@@ -10,12 +10,16 @@ use Rattle.rk_model.specs.declared.state.Life.TheVariants.{Started}
 use Rattle.rk_model.specs.declared.state.Thread.{Thread}
 use Rattle.rk_parts.specs.declared.core_state.ClusterPart.{ClusterPart}
 use Rattle.rk_parts.specs.Pieces.{cluster_of, clusters_of}
-use Rattle.rk_model.specs.Lists.{nth, times}
+use Rattle.rk_model.specs.Lists.{nth, with_nth, times, has}
 use Rattle.rk_cluster.specs.Clusters.{Cluster, empty_cluster}
-use Rattle.rk_parts.specs.Pinned.{linings, AllKeyed, AreNumbered}
-use Rattle.rk_kernel.specs.Touching.{made_from}
-use Rattle.rk_model.specs.State.{Plain, no_thread, thread_at}
-use Rattle.rk_model.specs.Priorities.{is_eligible}
+use Rattle.rk_model.specs.Settling.{belongs}
+use Rattle.rk_parts.specs.declared.core_state.Core.{Core}
+use Rattle.rk_parts.specs.Pinned.{linings, key_of, AllKeyed, AreNumbered, AllHeld, CanSettle}
+use Rattle.rk_parts.proofs.Standings.{standings_own}
+use Rattle.rk_parts.proofs.Noting.{nth_replicate}
+use Rattle.rk_kernel.specs.Made.{made_from}
+use Rattle.rk_model.specs.State.{Plain, ClusterState, no_thread, thread_at}
+use Rattle.rk_model.specs.Priorities.{is_eligible, standings, no_standing}
 use Rattle.rk_model.specs.Lines.{has_cpu}
 use Rattle.rk_model.specs.Running.{all_cpus}
 use Rattle.rk_model.specs.Histories.{begun, places, free_cluster, vacant, started, opening}
@@ -114,7 +118,6 @@ gentle_started s within =
       scenario = refl;
       present = refl;
       places = length-places 64 (map (begun s) s.inits) ∙ sym (length-places 64 []);
-      homes = λ t h. absurd (false≢true (sym (never_eligible (vacant s) t (no_place 64 t)) ∙ h));
       threads = rw size (All-from_recursion (IsInBounds s (length s.clusters) 0) threads (all_begun s (length s.clusters) 64 s.inits within within.some_cluster within.homes));
       lines = keeps_same (vacant s).clusters;
       timers = all_untimed threads 0 s.clusters;
@@ -134,14 +137,18 @@ places-push (suc n) [] thread at e within = rw e refl
 places-push (suc n) (x ∷ xs) thread zero e within = absurd (omega (arith, e))
 places-push (suc n) (x ∷ xs) thread (suc at) e within = ap (λ ts. x ∷ ts) (places-push n xs thread at (omega (arith, e)) (omega (arith, within)))
 
+-- the index behind a number of places
+with_next : (threads : List Thread) (at : ℕ) (thread : Thread) → with_nth threads (at + 1) thread ≡ slice_set threads at thread
+with_next threads at thread = let e : at + 1 ≡ suc at = omega arith in rw e refl
+
 -- one more init line's task is started
-pub started_more : (s : Scenario) (threads threads' : List Thread) (thread : Thread) (init : Init) (at : ℕ) → at < length s.inits → length s.inits ≤ 64 → init ≡ get_or s.inits at init → thread ≡ begun s init → threads' ≡ slice_set threads at thread → threads ≡ places 64 (map (begun s) (take at s.inits)) → threads' ≡ places 64 (map (begun s) (take (at + 1) s.inits))
+pub started_more : (s : Scenario) (threads threads' : List Thread) (thread : Thread) (init : Init) (at : ℕ) → at < length s.inits → length s.inits ≤ 64 → init ≡ get_or s.inits at init → thread ≡ begun s init → threads' ≡ with_nth threads (at + 1) thread → threads ≡ places 64 (map (begun s) (take at s.inits)) → threads' ≡ places 64 (map (begun s) (take (at + 1) s.inits))
 started_more s threads threads' thread init at within few is made set told =
     let front = map (begun s) (take at s.inits) in
     let size : at ≡ length front = omega (arith, length-map (take at s.inits) (begun s), length-take at s.inits) in
     let more : map (begun s) (take (at + 1) s.inits) ≡ front ++ begun s init ∷ [] =
     ap (map (begun s)) (take_more s.inits at init within) ∙ map-append (begun s) (take at s.inits) (get_or s.inits at init ∷ []) ∙ ap (λ x. front ++ begun s x ∷ []) (sym is) in
-    set ∙ ap (λ ts. slice_set ts at thread) told ∙ ap (slice_set (places 64 front) at) made ∙ places-push 64 front (begun s init) at size (omega arith) ∙ ap (places 64) (sym more)
+    set ∙ with_next threads at thread ∙ ap (λ ts. slice_set ts at thread) told ∙ ap (slice_set (places 64 front) at) made ∙ places-push 64 front (begun s init) at size (omega arith) ∙ ap (places 64) (sym more)
 
 -- the processors of the clusters in front of one and its own are at most those of all
 pub first_within : (counts : List ℕ) (i : ℕ) → i < length counts → cpus_in (take i counts) + get_or counts i 0 ≤ cpus_in counts
@@ -181,3 +188,21 @@ numbered_made c p (count ∷ counts) =
 pub keyed_made : (key : ℕ → ℕ) (c p : ℕ) (counts : List ℕ) → AllKeyed key (made_from c p counts)
 keyed_made key c p [] = tt
 keyed_made key c p (count ∷ counts) = (tt, keyed_made key (c + 1) (p + count) counts)
+
+-- nor any thread, where none belongs there
+pub held_free : (n c : ℕ) (counts : List ℕ) → AllHeld (replicate n no_standing) c (map free_cluster counts)
+held_free n c [] = tt
+held_free n c (m ∷ counts) = (λ t. ap (belongs c) (sym (nth_replicate no_standing n t)), held_free n (c + 1) counts)
+
+-- no thread stands where there is none
+pub standings_vacant : (s : Scenario) → standings (vacant s) ≡ replicate 64 no_standing
+standings_vacant s = standings_own (vacant s)
+
+-- the pieces with the clusters of an opening, and with nobody noted to stand, can settle
+pub can_open : (s : Scenario) (core : Core) → IsWithinLimits s → clusters_of core.clusters ≡ map free_cluster s.clusters → linings core.clusters ≡ made_from 0 0 s.clusters → core.threads.stood ≡ replicate 64 no_standing → CanSettle core
+can_open s core within clusters lined stood = record {
+  few = omega (arith, length-map core.clusters cluster_of, ap (λ (cs : List ClusterState). length cs) clusters, length-map s.clusters free_cluster, within.few_clusters);
+  lines = rw (clusters, stood) (held_free 64 0 s.clusters);
+  keyed = rw lined (keyed_made (key_of core.threads.stood) 0 0 s.clusters);
+  numbered = rw lined (numbered_made 0 0 s.clusters);
+}

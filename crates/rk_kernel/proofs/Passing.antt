@@ -2,6 +2,7 @@
 use Rattle.std.proofs.Common.{◌≡◌, ℕ, zero, suc, ◌+◌, ◌-◌, ◌<◌, ◌≤◌, List, [], ◌∷◌, Bool, true, false, cond, eqb, ◌||◌, ◌&&◌, not, Option, None, Some, length, get_or, arith, refl, ap, sym, ◌∙◌}
 use Rattle.std.specs.List.{AllByRecursion, range_with_len}
 use Rattle.std.proofs.lemmas.Bool.Decides.{nat_tests}
+use Rattle.std.proofs.lemmas.List.{ext_get_or}
 use Rattle.std.proofs.lemmas.List.Elements.{filter_agree, All-from_recursion, recursion_from_All}
 use Rattle.rk_model.specs.declared.scenario.Scenario.{Scenario}
 use Rattle.rk_model.specs.declared.state.Thread.{Thread}
@@ -9,8 +10,12 @@ use Rattle.rk_model.specs.declared.state.Wait.{Wait}
 use Rattle.rk_model.specs.declared.state.Wait.TheVariants.{ForTime}
 use Rattle.rk_model.specs.Lists.{times}
 use Rattle.rk_model.specs.State.{Plain, ClusterState, no_thread, thread_at}
-use Rattle.rk_model.specs.Priorities.{is_eligible, is_started, is_no_wait, spins_in}
-use Rattle.rk_model.specs.Tasks.{is_live}
+use Rattle.rk_model.specs.Priorities.{is_eligible, is_started, is_no_wait, spins_in, standings, no_standing}
+use Rattle.rk_model.specs.declared.ids.Class.{Class}
+use Rattle.rk_model.specs.declared.ids.Class.TheVariants.{Task}
+use Rattle.rk_model.specs.Tasks.{has_begun, begun_in}
+use Rattle.rk_parts.specs.Threads.{own_standing}
+use Rattle.rk_parts.proofs.Standings.{length-standings, standing_own, standings_say}
 use Rattle.rk_model.specs.Running.{runs_somewhere}
 use Rattle.rk_model.specs.Ticks.{charged, ticked, charge_from, pass}
 use Rattle.rk_model.specs.Limits.{AreRunnable}
@@ -25,7 +30,7 @@ by_test P true x y f g = f refl
 by_test P false x y f g = g refl
 
 -- what doesn't look at a thread's line, work left and count of computed ticks, a tick doesn't change
-charged_steady : {Y : Type 0} (f : Thread → Y) (s : Scenario) (x : Thread) → ((x : Thread) (line left computed : ℕ) → f (record x { line = line; left = left; computed = computed }) ≡ f x) → f (charged s x) ≡ f x
+pub charged_steady : {Y : Type 0} (f : Thread → Y) (s : Scenario) (x : Thread) → ((x : Thread) (line left computed : ℕ) → f (record x { line = line; left = left; computed = computed }) ≡ f x) → f (charged s x) ≡ f x
 charged_steady f s x steady =
     by_test (λ (y : Thread). f y ≡ f x) (eqb x.left 0) _ _ (λ _. refl)
     (λ _. by_test (λ (y : Thread). f y ≡ f x) (eqb x.left 1) _ _ (λ _. steady x _ _ _) (λ _. steady x x.line _ _))
@@ -105,6 +110,33 @@ charge_bounds k n t (x ∷ xs) runs all =
     let P : Thread → Type 0 = IsInBounds k.scenario n (k.present + 1) in
     (by_test P (runs_somewhere k t) _ _ (λ _. charged_bounds k.scenario n k.present x runs all.0) (λ _. later_bounds k.scenario n k.present x all.0), charge_bounds k n (t + 1) xs runs all.1)
 
+begun-pass : (k : Plain) (class : Class) (t : ℕ) → begun_in (pass k).threads class t ≡ begun_in k.threads class t
+begun-pass k Task t = passed_steady (λ (x : Thread). has_begun x.life) k t (λ _ _ _ _. refl)
+begun-pass k class t = refl
+
+-- where there is no thread, there is none after a tick
+charge_none : (k : Plain) (t : ℕ) (ts : List Thread) (i : ℕ) → get_or ts i no_thread ≡ no_thread → get_or (charge_from k t ts) i no_thread ≡ no_thread
+unfolding ticked
+charge_none k t [] i none = refl
+charge_none k t (x ∷ xs) zero none = by (runs_somewhere k t) (ap (charged k.scenario) none) where
+  by : (b : Bool) → charged k.scenario x ≡ no_thread → cond b (charged k.scenario x) x ≡ no_thread
+  by true here = here
+  by false here = none
+charge_none k t (x ∷ xs) (suc i) none = charge_none k (t + 1) xs i none
+
+passed_none : (k : Plain) (t : ℕ) → thread_at k t ≡ no_thread → thread_at (pass k) t ≡ no_thread
+passed_none k zero none = refl
+passed_none k (suc i) none = charge_none k 1 k.threads i none
+
+-- When a tick passes all threads stand as before.
+pub standings-pass : (k : Plain) → standings (pass k) ≡ standings k
+standings-pass k =
+    let size = length-charge_from k 1 k.threads in
+    let p = length-standings (pass k) 1 (length (pass k).threads) in
+    let q = length-standings k 1 (length k.threads) in
+    ext_get_or no_standing (standings (pass k)) (standings k) (omega (arith, p, q, size))
+    (λ i h. standings_say (pass k) (suc i) ∙ standing_own (pass k) (suc i) ∙ passed_steady own_standing k (suc i) (λ _ _ _ _. refl) ∙ sym (standings_say k (suc i) ∙ standing_own k (suc i)))
+
 -- A tick below the horizon keeps a state sound.
 pub sound_pass : (k : Plain) → IsSound k → k.present < k.scenario.horizon → IsSound (pass k)
 sound_pass k sound below = record {
@@ -117,5 +149,9 @@ sound_pass k sound below = record {
   bodies = sound.bodies;
   threads = All-from_recursion (IsInBounds k.scenario (length k.clusters) (k.present + 1)) _ (charge_bounds k (length k.clusters) 1 k.threads sound.bodies (recursion_from_All (IsInBounds k.scenario (length k.clusters) k.present) k.threads sound.threads));
   clusters = sound_clusters k 0 k.clusters sound.clusters;
-  named = record { split = sound.named.split; live = λ t. sound.named.live t ∙ ap (λ b. cond b 1 0) (sym (passed_steady (λ (x : Thread). is_live x.life) k t (λ _ _ _ _. refl))) };
+  named = record {
+    split = sound.named.split;
+    live = λ class t. sound.named.live class t ∙ ap (λ b. cond b 1 0) (sym (begun-pass k class t));
+    blank = λ t none. passed_none k t (sound.named.blank t (sym (begun-pass k Task t) ∙ none));
+  };
 }

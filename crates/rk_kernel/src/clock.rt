@@ -1,30 +1,29 @@
-ghost use Rattle.std.specs.Prelude.{◌≡◌, ◌<◌, ◌≤◌, ◌+◌, ◌-◌, ◌++◌, ◌∷◌, [], ℕ, None, length, All, true};
+//! A step of the clock: work is charged, and the timers that are due fire.
+
+ghost use Rattle.std.specs.Prelude.{◌≡◌, ◌<◌, ◌≤◌, ◌+◌, ℕ, length};
 ghost use Rattle.rk_model.specs.State.{thread_at};
-ghost use Rattle.rk_model.specs.Running.{cpu_count, least};
+ghost use Rattle.rk_model.specs.Running.{cpu_count};
 ghost use Rattle.rk_model.specs.Outcomes.{reply_at_timer};
-ghost use Rattle.rk_model.specs.Priorities.{standings};
-ghost use Rattle.rk_model.specs.Ticks.{charged, ticked, charge_from, pass, rung, fire_cluster, fire_all, tick};
-ghost use Rattle.rk_parts.specs.Firing.{due_now, FiresFirst};
-ghost use Rattle.rk_kernel.specs.Noted.{IsNoted};
-ghost use Rattle.rk_parts.specs.Pieces.{plain_of};
+ghost use Rattle.rk_model.specs.Ticks.{charged, charge_from, pass, rung, fire_cluster, fire_all, tick};
 ghost use Rattle.rk_model.specs.Limits.{AreRunnable};
-ghost use Rattle.rk_parts.specs.Pinned.{linings};
-ghost use Rattle.rk_kernel.specs.Touching.{touched_by};
-ghost use Rattle.rk_kernel.specs.Sound.{IsSound, IsInBounds};
+ghost use Rattle.rk_parts.specs.Firing.{due_now, FiresFirst};
+ghost use Rattle.rk_parts.specs.Pieces.{plain_of};
+ghost use Rattle.rk_parts.specs.Pinned.{stored, IsNoted};
+ghost use Rattle.rk_kernel.specs.Manned.{RunOnce};
+ghost use Rattle.rk_kernel.specs.Sound.{IsSound};
 ghost use Rattle.rk_kernel.specs.Step.{IsTick};
 
-use crate::answers::end_wait;
+use crate::directives::outcomes::end_wait;
 use crate::steps::CoreTick;
-use rk_model::{Armer, Items, Reply, Scenario, Status, Thread, ThreadIx, Wait};
-use rk_parts::core_state::{Core, Scratch, Threads};
-use rk_parts::places::{arrive, least_of, runs_on_some};
+use rk_model::{Armer, Reply, Scenario, Status, Thread, View, Wait};
+use rk_parts::arrival::arrive;
+use rk_parts::core_state::Core;
+use rk_parts::processors::{count_cpus, least_of, view_on};
 use rk_parts::settle::settle_core;
-use rk_parts::standing::thread_of;
 use rk_parts::timers::take_due_of;
-use std::mem;
 
 /// The thread after a tick through which it ran.
-fn charge_thread(scenario: &Scenario, thread: Thread) -> Thread
+fn charged(scenario: &Scenario, thread: Thread) -> Thread
     requires bodies { AreRunnable scenario.now.bodies }
     requires line { 0 < thread.left → thread.line ≤ 1000 }
     requires computed { thread.computed ≤ 1000000 }
@@ -45,54 +44,37 @@ fn charge_thread(scenario: &Scenario, thread: Thread) -> Thread
     }
 }
 
-/// A thread after a tick.
-#[tactic(auto, unfolding(rk_model::specs::Ticks::ticked))]
-fn tick_thread(core: &Core, index: ThreadIx, thread: Thread) -> Thread
-    requires cpus { cpu_count (plain_of core.now) ≤ 8 }
-    requires bodies { AreRunnable core.now.scenario.bodies }
-    requires line { 0 < thread.left → thread.line ≤ 1000 }
-    requires computed { thread.computed ≤ 1000000 }
-    ensures { result ≡ ticked (plain_of core.now) index thread }
+/// Charges each thread that runs.
+fn charge_all(core: &mut Core)
+    requires sound { IsSound (plain_of core.old) }
+    requires once { RunOnce (plain_of core.old) }
+    ensures charged { plain_of core.new ≡ record (plain_of core.old) { threads = charge_from (plain_of core.old) 1 core.old.threads.places } }
+    ensures kept { stored core.new ≡ stored core.old }
 {
-    if runs_on_some(core, index) {
-        charge_thread(&core.scenario, thread)
-    } else {
-        thread
-    }
-}
-
-/// Makes the threads after a tick.
-fn charge_into(out: &mut Items<Thread>, core: &Core)
-    requires places { length core.now.threads ≡ 64 }
-    requires size { length out.old ≡ 64 }
-    requires cpus { cpu_count (plain_of core.now) ≤ 8 }
-    requires present { core.now.present ≤ 1000000 }
-    requires bodies { AreRunnable core.now.scenario.bodies }
-    requires bounds { All (IsInBounds core.now.scenario (length core.now.clusters) core.now.present) core.now.threads }
-    ensures { out.new ≡ charge_from (plain_of core.now) 1 core.now.threads }
-{
-    for at in 0..core.threads.len() {
-        let index = ThreadIx::new(at as u8 + 1);
-        out.set(at, tick_thread(core, index, core.threads.at(at)));
+    for cpu in 0..count_cpus(core.clusters.as_slice()) {
+        if let View::Runs(thread) = view_on(core, cpu) {
+            let next = charged(&core.scenario, core.threads.get(thread));
+            core.threads.renew(thread, next);
+        }
     }
 }
 
 /// A tick passes, before any timer fires.
-fn pass_tick(core: &mut Core, scratch: &mut Scratch)
+fn pass(core: &mut Core)
     requires sound { IsSound (plain_of core.old) }
-    requires noted { IsNoted core.old scratch.old }
+    requires once { RunOnce (plain_of core.old) }
+    requires noted { IsNoted core.old }
     requires below { core.old.present < core.old.scenario.horizon }
     ensures passed { plain_of core.new ≡ pass (plain_of core.old) }
     ensures sound { IsSound (plain_of core.new) }
-    ensures noted { IsNoted core.new scratch.new }
+    ensures noted { IsNoted core.new }
 {
-    charge_into(&mut scratch.threads, core);
-    mem::swap(&mut core.threads, &mut scratch.threads);
+    charge_all(core);
     core.present += 1;
 }
 
 /// What a wait ends with when its timer fires.
-fn timer_reply(wait: Option<Wait>) -> Reply
+fn reply_at_timer(wait: Option<Wait>) -> Reply
     ensures { result ≡ reply_at_timer wait }
 {
     match wait {
@@ -104,85 +86,74 @@ fn timer_reply(wait: Option<Wait>) -> Reply
 }
 
 /// A timer fires: the wait of its thread ends.
-fn ring(core: &mut Core, who: Armer)
+fn rung(core: &mut Core, who: Armer)
     requires { (t : ℕ) → (thread_at (plain_of core.old) t).home < length core.old.clusters }
     ensures next { plain_of core.new ≡ rung (plain_of core.old) who }
-    ensures lined { linings core.new.clusters ≡ linings core.old.clusters }
+    ensures kept { stored core.new ≡ stored core.old }
 {
     match who {
         Armer::Thread(thread) => {
-            let wait = thread_of(core.threads.as_slice(), thread).wait;
-            end_wait(core, thread, timer_reply(wait));
+            let wait = core.threads.get(thread).wait;
+            end_wait(core, thread, reply_at_timer(wait));
         }
     }
 }
 
-/// Puts the thread whose timer fires into a list.
-fn touch_rung(out: &mut Threads, who: Armer)
-    ensures { out.new ≡ touched_by who }
-{
-    out.clear();
-    match who {
-        Armer::Thread(thread) => out.push(thread),
-    }
-}
-
 /// The first timer of a cluster that is due now fires, and the state settles; says whether there was one.
-fn fire_first(core: &mut Core, scratch: &mut Scratch, cluster: usize) -> bool
+fn fire_first(core: &mut Core, cluster: usize) -> bool
     requires cluster { cluster < length core.old.clusters }
     requires sound { IsSound (plain_of core.old) }
-    requires noted { IsNoted core.old scratch.old }
+    requires noted { IsNoted core.old }
     ensures fires { FiresFirst cluster (due_now (plain_of core.old) cluster) (plain_of core.old) result (plain_of core.new) }
     ensures clusters { length core.new.clusters ≡ length core.old.clusters }
     ensures sound { IsSound (plain_of core.new) }
-    ensures noted { IsNoted core.new scratch.new }
+    ensures noted { IsNoted core.new }
 {
     match take_due_of(core, cluster) {
         None => false,
         Some(timer) => {
-            ring(core, timer.who);
-            scratch.last.clear();
-            touch_rung(&mut scratch.touched, timer.who);
-            settle_core(core, scratch);
+            rung(core, timer.who);
+            settle_core(core, &None);
             true
         }
     }
 }
 
 /// All timers of a cluster that are due now fire.
-fn fire_cluster_timers(core: &mut Core, scratch: &mut Scratch, cluster: usize)
+fn fire_cluster(core: &mut Core, cluster: usize)
     requires cluster { cluster < length core.old.clusters }
     requires sound { IsSound (plain_of core.old) }
-    requires noted { IsNoted core.old scratch.old }
+    requires noted { IsNoted core.old }
     ensures fired { plain_of core.new ≡ fire_cluster (plain_of core.old) cluster }
     ensures clusters { length core.new.clusters ≡ length core.old.clusters }
     ensures sound { IsSound (plain_of core.new) }
-    ensures noted { IsNoted core.new scratch.new }
+    ensures noted { IsNoted core.new }
 {
-    'firing: while fire_first(core, scratch, cluster) {}
+    'firing: while fire_first(core, cluster) {}
 }
 
 /// All timers that are due now fire, cluster by cluster.
-fn fire_all_timers(core: &mut Core, scratch: &mut Scratch)
+fn fire_all(core: &mut Core)
     requires sound { IsSound (plain_of core.old) }
-    requires noted { IsNoted core.old scratch.old }
+    requires noted { IsNoted core.old }
     ensures fired { plain_of core.new ≡ fire_all (plain_of core.old) }
     ensures sound { IsSound (plain_of core.new) }
-    ensures noted { IsNoted core.new scratch.new }
+    ensures noted { IsNoted core.new }
 {
     let count = core.clusters.len();
     for cluster in 0..count {
-        fire_cluster_timers(core, scratch, cluster);
+        fire_cluster(core, cluster);
     }
 }
 
 /// A step of the clock.
-pub(crate) fn tick_core(core: &mut Core, scratch: &mut Scratch) -> CoreTick
+pub(crate) fn tick_core(core: &mut Core) -> CoreTick
     requires sound { IsSound (plain_of core.old) }
-    requires noted { IsNoted core.old scratch.old }
+    requires once { RunOnce (plain_of core.old) }
+    requires noted { IsNoted core.old }
     ensures step { IsTick (plain_of core.old) result (plain_of core.new) }
     ensures sound { IsSound (plain_of core.new) }
-    ensures noted { IsNoted core.new scratch.new }
+    ensures noted { IsNoted core.new }
 {
     if let Some(cpu) = least_of(core) {
         return CoreTick::NotYet(cpu);
@@ -190,7 +161,7 @@ pub(crate) fn tick_core(core: &mut Core, scratch: &mut Scratch) -> CoreTick
     if core.present >= core.scenario.horizon {
         return CoreTick::Ended;
     }
-    pass_tick(core, scratch);
-    fire_all_timers(core, scratch);
+    pass(core);
+    fire_all(core);
     CoreTick::Ticked
 }

@@ -8,11 +8,11 @@ ghost use Rattle.rk_kernel.specs.Step.{IsStep, IsTick};
 ghost use Rattle.rk_kernel.specs.Laws.{RefusesAlone};
 
 use crate::clock::tick_core;
-use crate::opening::{make_opening, make_scratch};
+use crate::opening::make_opening;
 use crate::steps::{CoreStep, CoreTick, step_core};
 use rk_model::{Entry, History, NoMemory, Scenario, View, What};
-use rk_parts::core_state::{Core, Scratch};
-use rk_parts::places::{count_cpus, least_of, view_on};
+use rk_parts::core_state::Core;
+use rk_parts::processors::{count_cpus, least_of, view_on};
 use std::alloc::Global;
 use std::marker::Model;
 
@@ -20,13 +20,12 @@ use std::marker::Model;
 #[derive(Debug, Drop)]
 pub struct Parts {
     core: Core,
-    scratch: Scratch,
 }
 
 impl Model for Parts {
     ghost use Rattle.rk_model.specs.State.{Plain};
     ghost use Rattle.rk_parts.specs.Pieces.{plain_of};
-    ghost use Rattle.rk_kernel.specs.Noted.{IsNoted};
+    ghost use Rattle.rk_parts.specs.Pinned.{IsNoted};
     ghost use Rattle.rk_kernel.specs.Sound.{IsSound};
     ghost use Rattle.rk_kernel.specs.Manned.{AreManned};
 
@@ -34,7 +33,7 @@ impl Model for Parts {
 
     ghost view = { λ p. plain_of p.core };
 
-    ghost invariant = { λ p. IsSound (plain_of p.core) × AreManned (plain_of p.core) × IsNoted p.core p.scratch };
+    ghost invariant = { λ p. IsSound (plain_of p.core) × AreManned (plain_of p.core) × IsNoted p.core };
 }
 
 /// The parts of the opening state of a scenario. It takes all the room that the run needs.
@@ -46,9 +45,8 @@ pub fn open_parts(alloc: Global, scenario: &Scenario) -> Result<Parts, NoMemory>
     requires { IsScenario scenario.now }
     ensures { IfOk result (λ p. p ≡ opening scenario.now) }
 {
-    let mut scratch = make_scratch(alloc)?;
-    let core = make_opening(alloc, scenario, &mut scratch)?;
-    Ok(Parts { core, scratch })
+    let core = make_opening(alloc, scenario)?;
+    Ok(Parts { core })
 }
 
 /// A step of a processor, whose number is below `cpus_of`: its directive, or why it has none. A
@@ -59,14 +57,14 @@ pub fn step_all(parts: &mut Parts, cpu: u8) -> CoreStep
     ensures step { IsStep parts.old cpu result parts.new }
     ensures refused { RefusesAlone result parts.old parts.new }
 {
-    step_core(&mut parts.core, &mut parts.scratch, cpu)
+    step_core(&mut parts.core, cpu)
 }
 
 /// A step of the clock: a tick, the end, or the processor that comes first. It takes no memory.
 pub fn tick_all(parts: &mut Parts) -> CoreTick
     ensures { IsTick parts.old result parts.new }
 {
-    tick_core(&mut parts.core, &mut parts.scratch)
+    tick_core(&mut parts.core)
 }
 
 /// What a processor does, whose number is below `cpus_of`.

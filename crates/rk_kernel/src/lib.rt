@@ -1,14 +1,13 @@
-//! The kernel of one thread: its parts, and their steps.
+//! The sequential kernel: one call for each step of a processor and for each tick. A step does one
+//! directive, and then the state settles.
 #![tactic(auto)]
 
-mod answers;
 mod clock;
 mod directives;
 mod kernel;
 pub mod laws;
 mod opening;
 mod steps;
-mod tasks;
 
 pub use kernel::{
     Parts, cpus_of, open_parts, replay, run_lowest, run_view, scenario_of, step_all, tick_all,

@@ -1,24 +1,24 @@
-ghost use Rattle.std.specs.Prelude.{◌≡◌, ◌<◌, ◌≤◌, ◌+◌, ℕ, length, [], IfOk, map};
-ghost use Rattle.std.specs.List.{AllByRecursion, range_with_len};
+ghost use Rattle.std.specs.Prelude.{◌≡◌, ◌<◌, ◌≤◌, ◌+◌, ℕ, length, [], IfOk, map, replicate};
+ghost use Rattle.std.specs.List.{AllByRecursion};
+ghost use Rattle.rk_model.specs.Priorities.{no_standing};
 ghost use Rattle.rk_model.specs.declared.scenario.Init.{Init as InitLine};
-ghost use Rattle.rk_model.specs.Names.{no_names};
+ghost use Rattle.rk_model.specs.Names.{no_objects};
 ghost use Rattle.rk_model.specs.Histories.{begun, places, free_cluster, vacant, begun_names, opening};
 ghost use Rattle.rk_model.specs.Limits.{AreRunnable, IsWithinLimits};
 ghost use Rattle.rk_model.specs.Scenarios.{cpus_in};
-ghost use Rattle.rk_kernel.specs.Noted.{IsNoted};
 ghost use Rattle.rk_parts.specs.Pieces.{cluster_of, clusters_of, plain_of};
-ghost use Rattle.rk_parts.specs.Pinned.{linings};
+ghost use Rattle.rk_parts.specs.Pinned.{linings, IsNoted};
 ghost use Rattle.rk_cluster.specs.Clusters.{empty_cluster};
-ghost use Rattle.rk_kernel.specs.Touching.{made_from};
+ghost use Rattle.rk_kernel.specs.Made.{made_from};
 ghost use Rattle.rk_kernel.specs.Sound.{IsSound};
 
 use rk_cluster::{Cluster, Moves};
-use rk_model::{Body, Init, Items, Life, NoMemory, Prio, Scenario, Standing, Thread, ThreadIx};
-use rk_parts::core_state::{ClusterPart, Core, Scratch, Threads, Timers};
-use rk_parts::places::arrive;
+use rk_model::{Body, Class, Init, Items, Life, NoMemory, Scenario, Thread, ThreadIx};
+use rk_parts::arrival::arrive;
+use rk_parts::core_state::{ClusterPart, Core, Timers};
 use rk_parts::settle::settle_core;
-use rk_parts::standing::note_all;
-use rk_parts::task_ids::TaskIds;
+use rk_parts::table::Table;
+use rk_parts::threads::Threads;
 use std::alloc::Global;
 
 /// A body that equals this one.
@@ -66,6 +66,7 @@ fn make_cluster(alloc: Global, number: u8, first: u8, count: u8) -> Result<Clust
     Ok(ClusterPart {
         lined: Cluster::new(alloc, number, first, count)?,
         timers: Timers::new(alloc)?,
+        moves: Moves::new(alloc)?,
     })
 }
 
@@ -85,18 +86,11 @@ fn make_clusters(alloc: Global, counts: &[u8]) -> Result<Vec<ClusterPart>, NoMem
     Ok(clusters)
 }
 
-/// Places for 64 threads.
-fn make_places(alloc: Global) -> Result<Items<Thread>, NoMemory>
-    ensures { IfOk result (λ threads. threads ≡ places 64 []) }
-{
-    let places = vec![in alloc; Thread::absent(); 64]?;
-    Ok(Items::from_vec(places))
-}
-
 /// The state in which there is no task yet.
 fn make_vacant(alloc: Global, scenario: &Scenario) -> Result<Core, NoMemory>
     requires { IsWithinLimits scenario.now }
     ensures vacant { IfOk result (λ core. plain_of core ≡ vacant scenario.now) }
+    ensures stood { IfOk result (λ core. core.threads.stood ≡ replicate 64 no_standing) }
     ensures lined { IfOk result (λ core. linings core.clusters ≡ made_from 0 0 scenario.now.clusters) }
 {
     let clusters = make_clusters(alloc, scenario.clusters.as_slice())?;
@@ -104,8 +98,8 @@ fn make_vacant(alloc: Global, scenario: &Scenario) -> Result<Core, NoMemory>
         scenario: copy_scenario(alloc, scenario)?,
         present: 0,
         clusters: Items::from_vec(clusters),
-        threads: make_places(alloc)?,
-        tasks: TaskIds::new(alloc)?,
+        threads: Threads::new(alloc)?,
+        table: Table::new(alloc)?,
     })
 }
 
@@ -125,81 +119,41 @@ fn begin(scenario: &Scenario, init: &Init) -> Thread
 }
 
 /// Starts the tasks of the init lines.
-fn start_all(threads: &mut Items<Thread>, scenario: &Scenario)
-    requires places { threads.old ≡ places 64 [] }
+fn start_all(threads: &mut Threads, scenario: &Scenario)
+    requires none { threads.old.places ≡ places 64 [] }
     requires few { length scenario.now.inits ≤ 64 }
     requires bodies { AreRunnable scenario.now.bodies }
-    ensures { threads.new ≡ places 64 (map (begun scenario.now) scenario.now.inits) }
+    ensures started { threads.new.places ≡ places 64 (map (begun scenario.now) scenario.now.inits) }
+    ensures stood { threads.new.stood ≡ threads.old.stood }
 {
     for at in 0..scenario.inits.len() {
-        threads.set(at, begin(scenario, &scenario.inits.at(at)));
+        let thread = begin(scenario, &scenario.inits.at(at));
+        threads.put(ThreadIx::new(at as u8 + 1), thread);
     }
 }
 
 /// Names the tasks of the init lines, which take the first indices.
-fn name_all(tasks: &mut TaskIds, inits: &[Init])
-    requires none { tasks.old ≡ no_names }
+fn name_all(table: &mut Table, inits: &[Init])
+    requires none { table.old ≡ no_objects }
     requires few { length inits.now ≤ 64 }
     requires named { AllByRecursion (λ (init : InitLine). 1 ≤ init.name.bits) inits.now }
-    ensures { tasks.new ≡ begun_names inits.now }
+    ensures { table.new ≡ record no_objects { tasks = begun_names inits.now } }
 {
     for at in 0..inits.len() {
-        tasks.make(inits[at].name);
-    }
-}
-
-/// Room for what settling and ticks note and make.
-pub(crate) fn make_scratch(alloc: Global) -> Result<Scratch, NoMemory>
-    ensures before { IfOk result (λ scratch. length scratch.before ≡ 64) }
-    ensures now { IfOk result (λ scratch. length scratch.now ≡ 64) }
-    ensures last { IfOk result (λ scratch. scratch.last ≡ []) }
-    ensures threads { IfOk result (λ scratch. length scratch.threads ≡ 64) }
-{
-    let none = Standing {
-        eligible: false,
-        prio: Prio::least_urgent(),
-    };
-    Ok(Scratch {
-        before: Items::from_vec(vec![in alloc; none; 64]?),
-        now: Items::from_vec(vec![in alloc; none; 64]?),
-        touched: Threads::new(alloc)?,
-        last: Threads::new(alloc)?,
-        moves: Moves::new(alloc)?,
-        threads: make_places(alloc)?,
-    })
-}
-
-/// Puts all threads into a list.
-fn touch_all(out: &mut Threads)
-    ensures { out.new ≡ range_with_len 1 64 }
-{
-    out.clear();
-    for before in 0..64 {
-        out.push(ThreadIx::new(before + 1));
+        table.make(Class::Task, inits[at].name);
     }
 }
 
 /// The state at opening.
-pub(crate) fn make_opening(
-    alloc: Global,
-    scenario: &Scenario,
-    scratch: &mut Scratch,
-) -> Result<Core, NoMemory>
-    requires limits { IsWithinLimits scenario.now }
-    requires before { length scratch.old.before ≡ 64 }
-    requires now { length scratch.old.now ≡ 64 }
-    requires last { scratch.old.last ≡ [] }
-    requires threads { length scratch.old.threads ≡ 64 }
+pub(crate) fn make_opening(alloc: Global, scenario: &Scenario) -> Result<Core, NoMemory>
+    requires { IsWithinLimits scenario.now }
     ensures opening { IfOk result (λ core. plain_of core ≡ opening scenario.now) }
     ensures sound { IfOk result (λ core. IsSound (plain_of core)) }
-    ensures noted { IfOk result (λ core. IsNoted core scratch.new) }
+    ensures noted { IfOk result (λ core. IsNoted core) }
 {
     let mut core = make_vacant(alloc, scenario)?;
-    note_all(&mut scratch.before, &core);
-    note_all(&mut scratch.now, &core);
-    touch_all(&mut scratch.touched);
     start_all(&mut core.threads, scenario);
-    name_all(&mut core.tasks, scenario.inits.as_slice());
-    settle_core(&mut core, scratch);
+    name_all(&mut core.table, scenario.inits.as_slice());
+    settle_core(&mut core, &None);
     Ok(core)
 }

@@ -4,8 +4,8 @@ use Rattle.rk_kernel.specs.Manned.{AreManned}
 use Rattle.rk_kernel.proofs.Manning.{manned_opening}
 use Rattle.rk_kernel.proofs.kernel.open_parts.Goals as goal
 
-pub make_opening-requires-clause-limits : goal.make_opening-requires-clause-limits
-make_opening-requires-clause-limits c = limits_of c.args.scenario.now c.requires
+pub make_opening-requires : goal.make_opening-requires
+make_opening-requires c = limits_of c.args.scenario.now c.requires
 
 pub invariant_of-result : goal.invariant_of-result
 invariant_of-result c = (

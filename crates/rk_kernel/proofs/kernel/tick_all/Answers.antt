@@ -1,6 +1,10 @@
 use Rattle.rk_parts.specs.Pieces.{plain_of}
 use Rattle.rk_kernel.proofs.Keeping.{tick_manned}
+use Rattle.rk_kernel.proofs.Manning.{run_once}
 use Rattle.rk_kernel.proofs.kernel.tick_all.Goals as goal
+
+pub tick_core-requires-clause-once : goal.tick_core-requires-clause-once
+tick_core-requires-clause-once c = run_once (plain_of c.parts.inside.core) c.parts.invariant.0 c.parts.invariant.1
 
 pub invariant_of-parts : goal.invariant_of-parts
 invariant_of-parts c = (

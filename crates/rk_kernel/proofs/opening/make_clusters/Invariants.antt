@@ -3,7 +3,7 @@ use Rattle.rk_model.specs.Scenarios.{cpus_in}
 use Rattle.rk_model.specs.Histories.{free_cluster}
 use Rattle.rk_parts.specs.Pieces.{clusters_of}
 use Rattle.rk_parts.specs.Pinned.{linings}
-use Rattle.rk_kernel.specs.Touching.{made_from}
+use Rattle.rk_kernel.specs.Made.{made_from}
 use Rattle.rk_kernel.proofs.opening.make_clusters.Given as goal
 
 abbrev pub invariant-loop-at : goal.invariant-loop-at

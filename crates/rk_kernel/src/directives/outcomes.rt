@@ -1,20 +1,20 @@
-ghost use Rattle.std.specs.Prelude.{◌≡◌, ◌≤◌, ◌<◌, ◌+◌, ℕ, [], length, None};
+//! What the outcomes of directives share: how a caller goes on, and how a wait begins and ends.
+
+ghost use Rattle.std.specs.Prelude.{◌≡◌, ◌≤◌, ◌<◌, ℕ, length, None};
 ghost use Rattle.std.specs.List.{slice_index_or};
-ghost use Rattle.std.specs.Option.{option_to_list};
 ghost use Rattle.rk_model.specs.declared.entry.Answer.TheVariants.{Done};
 ghost use Rattle.rk_model.specs.declared.status.Status.TheVariants.{Successful};
 ghost use Rattle.rk_model.specs.Limits.{AreRunnable};
 ghost use Rattle.rk_model.specs.State.{thread_at};
-ghost use Rattle.rk_model.specs.Ops.{result_var as var_of};
-ghost use Rattle.rk_model.specs.Outcomes.{begin_wait as begun, begin_limited, end_wait as ended, stored, go_on as gone, concluded, status_of, out_of, last_of};
+ghost use Rattle.rk_model.specs.Ops.{result_var};
+ghost use Rattle.rk_model.specs.Outcomes.{begin_wait, begin_limited, end_wait, stored as stored_in, go_on, concluded, status_of, out_of, last_of};
 ghost use Rattle.rk_kernel.specs.Calls.{IsActing};
 ghost use Rattle.rk_parts.specs.Pieces.{plain_of};
-ghost use Rattle.rk_parts.specs.Pinned.{linings};
+ghost use Rattle.rk_parts.specs.Pinned.{stored};
 
 use rk_model::{Answer, Armer, Op, Reply, Status, Thread, ThreadIx, Wait};
-use rk_parts::core_state::{Core, Threads};
-use rk_parts::places::{arrive, put};
-use rk_parts::standing::thread_of;
+use rk_parts::arrival::arrive;
+use rk_parts::core_state::Core;
 use rk_parts::timers::{arm_timer, cancel_timer};
 
 /// The answer of a directive that is done with an out number.
@@ -26,7 +26,7 @@ pub(crate) fn done(out: u32) -> Answer
 
 /// The variable of the caller in which a line stores its out number.
 fn result_var(op: Option<Op>) -> Option<u8>
-    ensures { result ≡ var_of op }
+    ensures { result ≡ result_var op }
 {
     match op {
         Some(Op::TaskCreate(_, _, var)) => Some(var),
@@ -48,7 +48,7 @@ pub(crate) fn value_in(thread: Thread, var: u8) -> u32
 
 /// Variables of which one, if it is told, has another value.
 fn store(vars: [u32; 8], var: Option<u8>, value: u32) -> [u32; 8]
-    ensures { result ≡ stored var vars value }
+    ensures { result ≡ stored_in var vars value }
 {
     let mut vars = vars;
     if let Some(var) = var {
@@ -64,15 +64,15 @@ fn store(vars: [u32; 8], var: Option<u8>, value: u32) -> [u32; 8]
 fn go_on(core: &mut Core, caller: ThreadIx, out: u32)
     requires line { (thread_at (plain_of core.old) caller).line ≤ 1001 }
     requires bodies { AreRunnable core.old.scenario.bodies }
-    ensures next { plain_of core.new ≡ gone (plain_of core.old) caller out }
-    ensures lined { linings core.new.clusters ≡ linings core.old.clusters }
+    ensures next { plain_of core.new ≡ go_on (plain_of core.old) caller out }
+    ensures kept { stored core.new ≡ stored core.old }
 {
-    let thread = thread_of(core.threads.as_slice(), caller);
+    let thread = core.threads.get(caller);
     let var = result_var(core.scenario.op_at(thread.body, thread.line));
     let vars = store(thread.vars, var, out);
     let told = Thread { vars, ..thread };
     let moved = arrive(&core.scenario, told, told.line + 1);
-    put(core, caller, moved);
+    core.threads.put(caller, moved);
 }
 
 /// A reply without an out number.
@@ -83,55 +83,63 @@ fn bare(status: Status) -> Reply
     Reply { status, out: 0 }
 }
 
+/// The thread that goes to the end of its line after an answer, if one does.
+pub(crate) fn last_of(answer: &Answer) -> Option<ThreadIx>
+    ensures { result ≡ last_of answer.now }
+{
+    match answer {
+        Answer::Done(_, _, last) => *last,
+        _ => None,
+    }
+}
+
 /// What follows an answer: the caller stores the out number and goes on, unless it waits or has no
-/// next line. Gives the reply, and the thread that goes last.
-pub(crate) fn finish(core: &mut Core, last: &mut Threads, caller: ThreadIx, answer: Answer) -> Reply
-    requires none { last.old ≡ [] }
+/// next line. Gives the status and the out number.
+pub(crate) fn conclude(core: &mut Core, caller: ThreadIx, answer: &Answer) -> Reply
     requires line { (thread_at (plain_of core.old) caller).line ≤ 1001 }
     requires bodies { AreRunnable core.old.scenario.bodies }
-    ensures state { plain_of core.new ≡ concluded answer (plain_of core.old) caller }
-    ensures status { result.status ≡ status_of answer }
-    ensures out { result.out ≡ out_of answer }
-    ensures last { last.new ≡ option_to_list (last_of answer) }
-    ensures lined { linings core.new.clusters ≡ linings core.old.clusters }
+    ensures next { plain_of core.new ≡ concluded answer.now (plain_of core.old) caller }
+    ensures status { result.status ≡ status_of answer.now }
+    ensures out { result.out ≡ out_of answer.now }
+    ensures kept { stored core.new ≡ stored core.old }
 {
     match answer {
         Answer::Refused(status) => {
             go_on(core, caller, 0);
-            bare(status)
+            bare(*status)
         }
-        Answer::Done(status, out, moved) => {
-            go_on(core, caller, out);
-            if let Some(thread) = moved {
-                last.push(thread);
+        Answer::Done(status, out, _) => {
+            go_on(core, caller, *out);
+            Reply {
+                status: *status,
+                out: *out,
             }
-            Reply { status, out }
         }
         Answer::Waiting => bare(Status::Waits),
-        Answer::Gone(status) => bare(status),
+        Answer::Gone(status) => bare(*status),
     }
 }
 
 /// Lets the caller begin to wait.
 fn begin_wait(core: &mut Core, caller: ThreadIx, wait: Wait)
-    ensures next { plain_of core.new ≡ begun (plain_of core.old) caller wait }
-    ensures lined { linings core.new.clusters ≡ linings core.old.clusters }
+    ensures next { plain_of core.new ≡ begin_wait (plain_of core.old) caller wait }
+    ensures kept { stored core.new ≡ stored core.old }
 {
-    let thread = thread_of(core.threads.as_slice(), caller);
+    let thread = core.threads.get(caller);
     let waiting = Thread {
         wait: Some(wait),
         ..thread
     };
-    put(core, caller, waiting);
+    core.threads.put(caller, waiting);
 }
 
 /// Lets the caller begin to wait with a limit of so many ticks, or with 0 without a limit.
-pub(crate) fn wait_for(core: &mut Core, caller: ThreadIx, wait: Wait, ticks: u32)
+pub(crate) fn begin_limited(core: &mut Core, caller: ThreadIx, wait: Wait, ticks: u32)
     requires { IsActing (plain_of core.old) caller }
     ensures next { plain_of core.new ≡ begin_limited (plain_of core.old) caller wait ticks }
-    ensures lined { linings core.new.clusters ≡ linings core.old.clusters }
+    ensures kept { stored core.new ≡ stored core.old }
 {
-    let home = thread_of(core.threads.as_slice(), caller).home;
+    let home = core.threads.get(caller).home;
     let due = u64::from(core.present) + u64::from(ticks);
     begin_wait(core, caller, wait);
     if ticks != 0 {
@@ -142,15 +150,15 @@ pub(crate) fn wait_for(core: &mut Core, caller: ThreadIx, wait: Wait, ticks: u32
 /// Ends the wait of a thread with a reply, and cancels its timer.
 pub(crate) fn end_wait(core: &mut Core, thread: ThreadIx, reply: Reply)
     requires { (thread_at (plain_of core.old) thread).home < length core.old.clusters }
-    ensures next { plain_of core.new ≡ ended (plain_of core.old) thread reply }
-    ensures lined { linings core.new.clusters ≡ linings core.old.clusters }
+    ensures next { plain_of core.new ≡ end_wait (plain_of core.old) thread reply }
+    ensures kept { stored core.new ≡ stored core.old }
 {
-    let waiting = thread_of(core.threads.as_slice(), thread);
+    let waiting = core.threads.get(thread);
     cancel_timer(core, waiting.home, Armer::Thread(thread));
     let woken = Thread {
         wait: None,
         finished: Some(reply),
         ..waiting
     };
-    put(core, thread, woken);
+    core.threads.put(thread, woken);
 }
