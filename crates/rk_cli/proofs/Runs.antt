@@ -13,7 +13,7 @@ use Rattle.rk_cli.specs.Inputs.{HasScenario, HasFault}
 use Rattle.rk_cli.specs.Plans.{HasPart}
 use Rattle.rk_cli.specs.Statuses.{IsOneOf, PlansText, RefusesFault, plan_status}
 use Rattle.rk_cli.specs.Answers.{Plans, Emits, IsRun}
-use Rattle.rk_cli.proofs.Cut.{cut_lowest}
+use Rattle.rk_kernel.proofs.Going.{cut_lowest}
 
 appends_text : (had has : Option (List ℕ)) (a b : List ℕ) → a ≡ b → Appends had has a → Appends had has b
 appends_text had has a b e h = rw e at h

@@ -25,3 +25,5 @@ pub mod Acting
 pub mod Stillness
 pub mod Refusing
 pub mod Keeping
+pub mod Known
+pub mod Going

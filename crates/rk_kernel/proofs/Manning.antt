@@ -1,34 +1,34 @@
 -- The processors of each cluster have its runners, each on one.
 use Rattle.std.proofs.Common.{◌≡◌, ℕ, zero, suc, ◌+◌, ◌<◌, ◌≤◌, List, [], ◌∷◌, ◌++◌, Bool, true, false, cond, ◌==◌, ◌&&◌, nat_lt, Option, None, Some, length, map, replicate, get_or, ⊎_elim, arith, refl, sym, ap, subst, ◌∙◌}
 use Rattle.std.specs.List.{slice_index_or}
-use Rattle.std.proofs.lemmas.List.{get_or_past}
-use Rattle.std.proofs.lemmas.Bool.{cases_lt}
 use Rattle.std.proofs.lemmas.Bool.Decides.{nat_tests}
 use Rattle.rk_model.specs.declared.scenario.Scenario.{Scenario}
 use Rattle.rk_model.specs.declared.entry.Entry.{Entry}
 use Rattle.rk_model.specs.declared.entry.View.TheVariants.{Spins, Runs}
 use Rattle.rk_model.specs.declared.state.Thread.{Thread}
 use Rattle.rk_model.specs.Lists.{times}
-use Rattle.rk_model.specs.State.{Plain, ClusterState, no_thread, no_cluster, thread_at, cluster_at}
-use Rattle.rk_model.specs.Priorities.{is_eligible, spins, prio, or_least_urgent, home_prio, standing, standings, standings_from, no_standing, nth_standing}
+use Rattle.rk_model.specs.State.{Plain, ClusterState, no_cluster, thread_at, cluster_at}
+use Rattle.rk_model.specs.Priorities.{is_eligible, spins, prio, or_least_urgent, urgency, standings}
 use Rattle.rk_model.specs.Lines.{most_urgent, assigned}
-use Rattle.rk_model.specs.Settling.{moves, moved, key_of, settled_from, settle}
+use Rattle.rk_model.specs.Settling.{moves, moved, settle}
 use Rattle.rk_model.specs.Running.{all_cpus, cpu_at, view_of}
 use Rattle.rk_model.specs.Ticks.{pass}
 use Rattle.rk_model.specs.Steps.{Act, act}
 use Rattle.rk_model.specs.Limits.{IsWithinLimits}
 use Rattle.rk_model.specs.Histories.{free_cluster, vacant, opening, after}
 use Rattle.rk_model.specs.Scenarios.{IsScenario}
-use Rattle.rk_kernel.specs.Sound.{stands, own, AllSound, IsClusterSound, IsSound, KeepsLines, IsGentle}
-use Rattle.rk_kernel.specs.Manned.{HasRunners, AllManned, AreManned}
-use Rattle.rk_kernel.specs.Laws.{seats, ProcessorsHaveTheRunners, NoneRunsTwice}
-use Rattle.rk_kernel.proofs.Moving.{line_moved}
-use Rattle.rk_parts.proofs.Noting.{length-standings, standing_at}
 use Rattle.rk_cluster.proofs.Assigning.{length-assigned}
+use Rattle.rk_parts.specs.Settled.{settled_from}
+use Rattle.rk_parts.proofs.Settling.{urgency-with_clusters}
+use Rattle.rk_kernel.specs.Sound.{stands, own, AllSound, IsClusterSound, IsSound, KeepsLines}
+use Rattle.rk_kernel.specs.Manned.{HasRunners, AllManned, AreManned, RunOnce}
+use Rattle.rk_kernel.specs.Laws.{seats, ProcessorsHaveTheRunners, NoneRunsTwice}
+use Rattle.rk_kernel.proofs.Moving.{own_once, line_moved}
 use Rattle.rk_kernel.proofs.Passing.{passed_steady}
-use Rattle.rk_kernel.proofs.Belonging.{own_once, sound_at}
+use Rattle.rk_kernel.proofs.Belonging.{sound_at}
 use Rattle.rk_kernel.proofs.Seats.{seats_assigned}
 use Rattle.rk_kernel.proofs.Ranking.{none_urgent, most_few, times-most_urgent}
+use Rattle.rk_kernel.proofs.Soundness.{each_settled, settled_each}
 use Rattle.rk_kernel.proofs.Reached.{IsKept, kept_after, kept_opening, kept_act}
 
 at_most_once : (b : Bool) → cond b 1 0 ≤ 1
@@ -39,90 +39,81 @@ at_most_once false = omega arith
 pub runs_once : (k : Plain) (key : ℕ → ℕ) (c m : ℕ) (line : List ℕ) → ((t : ℕ) → times t line ≡ times t (own k c)) → (t : ℕ) → times t (most_urgent key m line) ≤ cond (stands k c t) 1 0
 runs_once k key c m line held t = omega (arith, times-most_urgent key m line t, held t, own_once k c t)
 
--- the register says of each index what the priority of the thread there is
-pub prio_noted : (k : Plain) (t : ℕ) → (nth_standing (standings k) t).prio ≡ home_prio k t
-unfolding standing home_prio prio
-prio_noted k zero = refl
-prio_noted k (suc i) =
-    ⊎_elim
-    (λ h. let e : 1 + i ≡ suc i = omega arith in rw (standing_at k 1 (length k.threads) i h, e) refl)
-    (λ h. rw (get_or_past k.threads i no_thread h, get_or_past (standings_from k 1 (length k.threads)) i no_standing (rw length-standings h)) refl)
-    (cases_lt i (length k.threads))
-
-home_prio-with_clusters : (k : Plain) (clusters : List ClusterState) (t : ℕ) → home_prio (record k { clusters = clusters }) t ≡ home_prio k t
-unfolding home_prio prio
-home_prio-with_clusters k clusters t = refl
-
 -- what a cluster's processors have after settling
-manned_settled : (k next : Plain) (last : List ℕ) (key : ℕ → ℕ) (c : ℕ) (a b : ClusterState) → IsGentle k next → IsClusterSound k c a → HasRunners (home_prio k) a → b.line ≡ a.line → b.cpus ≡ a.cpus →
-    (t : ℕ) → let line = moved (moves (standings k) (standings next) last) next.threads c b.line in seats t (assigned b.cpus (most_urgent key (length b.cpus) line)) ≡ times t (most_urgent key (length (assigned b.cpus (most_urgent key (length b.cpus) line))) line)
-manned_settled k next last key c a b gentle sound manned same kept t =
-    let line = moved (moves (standings k) (standings next) last) next.threads c b.line in
+manned_settled : (k next : Plain) (last : List ℕ) (key : ℕ → ℕ) (c : ℕ) (a b : ClusterState) → length next.threads ≡ length k.threads → IsClusterSound k c a → HasRunners (urgency k c) a → b.line ≡ a.line → b.cpus ≡ a.cpus →
+    (t : ℕ) → let line = moved (moves (standings k) (standings next) last c) (length next.threads) b.line in seats t (assigned b.cpus (most_urgent key (length b.cpus) line)) ≡ times t (most_urgent key (length (assigned b.cpus (most_urgent key (length b.cpus) line))) line)
+manned_settled k next last key c a b size sound manned same kept t =
+    let line = moved (moves (standings k) (standings next) last c) (length next.threads) b.line in
     let running = most_urgent key (length b.cpus) line in
-    let held = line_moved k next last c b.line gentle (λ u. rw same (sound.line u)) in
-    let few : (u : ℕ) → seats u b.cpus ≤ 1 = λ u. rw kept (omega (arith, manned u, runs_once k (home_prio k) c (length a.cpus) a.line sound.line u, at_most_once (stands k c u))) in
+    let held = line_moved k next last c b.line size (λ u. rw same (sound.line u)) in
+    let few : (u : ℕ) → seats u b.cpus ≤ 1 = λ u. rw kept (omega (arith, manned u, runs_once k (urgency k c) c (length a.cpus) a.line sound.line u, at_most_once (stands k c u))) in
     let once : (u : ℕ) → times u running ≤ 1 = λ u. omega (arith, runs_once next key c (length b.cpus) line held u, at_most_once (stands next c u)) in
     seats_assigned b.cpus running few once (most_few key (length b.cpus) line) t ∙ ap (λ m. times t (most_urgent key m line)) (sym (length-assigned b.cpus running))
 
-all_manned : (k next : Plain) (last : List ℕ) (key : ℕ → ℕ) (c : ℕ) (olds news : List ClusterState) → IsGentle k next → AllSound k c olds → AllManned (home_prio k) olds → KeepsLines olds news →
-    AllManned key (settled_from (moves (standings k) (standings next) last) key next.threads c news)
-all_manned k next last key c [] [] gentle sound manned keeps = tt
-all_manned k next last key c [] (b ∷ news) gentle sound manned keeps = absurd keeps
-all_manned k next last key c (a ∷ olds) [] gentle sound manned keeps = absurd keeps
-all_manned k next last key c (a ∷ olds) (b ∷ news) gentle sound manned keeps =
-    (manned_settled k next last key c a b gentle sound.0 manned.0 keeps.0 keeps.1, all_manned k next last key (c + 1) olds news gentle sound.1 manned.1 keeps.2)
+all_manned : (k next : Plain) (last : List ℕ) (key : ℕ → ℕ → ℕ) (c : ℕ) (olds news : List ClusterState) → length next.threads ≡ length k.threads → AllSound k c olds → AllManned (urgency k) c olds → KeepsLines olds news →
+    AllManned key c (settled_from (moves (standings k) (standings next) last) key (length next.threads) c news)
+all_manned k next last key c [] [] size sound manned keeps = tt
+all_manned k next last key c [] (b ∷ news) size sound manned keeps = absurd keeps
+all_manned k next last key c (a ∷ olds) [] size sound manned keeps = absurd keeps
+all_manned k next last key c (a ∷ olds) (b ∷ news) size sound manned keeps =
+    (manned_settled k next last (key c) c a b size sound.0 manned.0 keeps.0 keeps.1, all_manned k next last key (c + 1) olds news size sound.1 manned.1 keeps.2)
 
-pub other_key : (key key' : ℕ → ℕ) (clusters : List ClusterState) → ((t : ℕ) → key t ≡ key' t) → AllManned key clusters → AllManned key' clusters
-other_key key key' clusters same manned = let e : key ≡ key' = λ i t. same t i in subst (λ (f : ℕ → ℕ). AllManned f clusters) e manned
+other_key : (key key' : ℕ → ℕ → ℕ) (c : ℕ) (clusters : List ClusterState) → ((d t : ℕ) → key d t ≡ key' d t) → AllManned key c clusters → AllManned key' c clusters
+other_key key key' c clusters same manned = let e : key ≡ key' = λ i d t. same d t i in subst (λ (f : ℕ → ℕ → ℕ). AllManned f c clusters) e manned
 
-home_prio-pass : (k : Plain) (t : ℕ) → home_prio k t ≡ home_prio (pass k) t
-unfolding home_prio prio
-home_prio-pass k t = sym (passed_steady (λ (x : Thread). or_least_urgent (cond (x.home == x.home) (Some x.base) None)) k t (λ _ _ _ _. refl))
+urgency-pass : (k : Plain) (c t : ℕ) → urgency k c t ≡ urgency (pass k) c t
+unfolding urgency prio
+urgency-pass k c t = sym (passed_steady (λ (x : Thread). or_least_urgent (cond (x.home == c) (Some x.base) None)) k t (λ _ _ _ _. refl))
 
 kept_manned : IsKept AreManned
 kept_manned = record {
   settled = λ k next last sound gentle manned.
-      let clusters = (settle k next last).clusters in
-      other_key (key_of (standings next)) (home_prio (settle k next last)) clusters
-      (λ t. prio_noted next t ∙ sym (home_prio-with_clusters next clusters t))
-      (all_manned k next last (key_of (standings next)) 0 k.clusters next.clusters gentle sound.clusters manned gentle.lines);
-  passed = λ k sound manned. other_key (home_prio k) (home_prio (pass k)) k.clusters (home_prio-pass k) manned;
+      let clusters = each_settled k next last in
+      subst AreManned (sym (settled_each k next last))
+      (other_key (urgency next) (urgency (record next { clusters = clusters })) 0 clusters (λ d t. sym (urgency-with_clusters next clusters d t))
+      (all_manned k next last (urgency next) 0 k.clusters next.clusters gentle.places sound.clusters manned gentle.lines));
+  passed = λ k sound manned. other_key (urgency k) (urgency (pass k)) 0 k.clusters (urgency-pass k) manned;
 }
 
 no_seats : (t m : ℕ) → seats t (replicate m None) ≡ 0
 no_seats t zero = refl
 no_seats t (suc m) = no_seats t m
 
-manned_free : (key : ℕ → ℕ) (counts : List ℕ) → AllManned key (map free_cluster counts)
-manned_free key [] = tt
-manned_free key (m ∷ counts) = (λ t. no_seats t m ∙ ap (times t) (sym (none_urgent key (length (free_cluster m).cpus))), manned_free key counts)
+manned_free : (key : ℕ → ℕ → ℕ) (c : ℕ) (counts : List ℕ) → AllManned key c (map free_cluster counts)
+manned_free key c [] = tt
+manned_free key c (m ∷ counts) = (λ t. no_seats t m ∙ ap (times t) (sym (none_urgent (key c) (length (free_cluster m).cpus))), manned_free key (c + 1) counts)
 
 -- The processors have their runners at opening,
 pub manned_opening : (s : Scenario) → IsWithinLimits s → AreManned (opening s)
-manned_opening s within = (kept_opening AreManned kept_manned s within (manned_free (home_prio (vacant s)) s.clusters)).1
+manned_opening s within = (kept_opening AreManned kept_manned s within (manned_free (urgency (vacant s)) 0 s.clusters)).1
 
 -- and after what a seat does.
 pub manned_act : (k : Plain) (q : ℕ) (a : Act) → IsSound k → AreManned k → act k q ≡ Some a → AreManned a.next
 manned_act k q a sound manned did = (kept_act AreManned kept_manned k q a (sound, manned) did).1
 
 pub manned_after : (s : Scenario) (xs : List Entry) → IsScenario s → IsSound (after s xs) × AreManned (after s xs)
-manned_after s xs is = kept_after AreManned kept_manned s xs is (manned_free (home_prio (vacant s)) s.clusters)
+manned_after s xs is = kept_after AreManned kept_manned s xs is (manned_free (urgency (vacant s)) 0 s.clusters)
 
-manned_from : (key : ℕ → ℕ) (i : ℕ) (clusters : List ClusterState) → i < length clusters → AllManned key clusters → HasRunners key (slice_index_or clusters i no_cluster)
-manned_from key i [] within manned = absurd (never i within) where
+manned_from : (key : ℕ → ℕ → ℕ) (c i : ℕ) (clusters : List ClusterState) → i < length clusters → AllManned key c clusters → HasRunners (key (c + i)) (slice_index_or clusters i no_cluster)
+manned_from key c i [] within manned = absurd (never i within) where
   never : (i : ℕ) → i < 0 → ⊥
   never i h = omega (arith, h)
-manned_from key zero (cluster ∷ clusters) within manned = manned.0
-manned_from key (suc i) (cluster ∷ clusters) within manned = manned_from key i clusters (omega arith) manned.1
+manned_from key c zero (cluster ∷ clusters) within manned =
+    let e : c + 0 ≡ c = omega arith in
+    rw e manned.0
+manned_from key c (suc i) (cluster ∷ clusters) within manned =
+    let e : c + suc i ≡ c + 1 + i = omega arith in
+    rw e (manned_from key (c + 1) i clusters (omega arith) manned.1)
 
 pub processors_manned : ProcessorsHaveTheRunners
 processors_manned s xs is legal c within =
     let k = after s xs in
     let both = manned_after s xs is in
     let cluster = cluster_at k c in
+    let e : 0 + c ≡ c = omega arith in
     record {
-      once = λ t. omega (arith, runs_once k (home_prio k) c (length cluster.cpus) cluster.line (sound_at k c both.0 within).line t, at_most_once (stands k c t));
-      manned = manned_from (home_prio k) c k.clusters within both.1;
+      once = λ t. omega (arith, runs_once k (urgency k c) c (length cluster.cpus) cluster.line (sound_at k c both.0 within).line t, at_most_once (stands k c t));
+      manned = rw e at (manned_from (urgency k) 0 c k.clusters within both.1);
     }
 
 seats-append : (t : ℕ) (xs ys : List (Option ℕ)) → seats t (xs ++ ys) ≡ seats t xs + seats t ys
@@ -142,10 +133,10 @@ here_or_behind : (h c x y : ℕ) → x ≤ cond (h == c) 1 0 → y ≤ cond (nat
 here_or_behind h c x y a b = grind (arith, nat_tests, a, b)
 
 -- all processors with a thread are of its home, and there is one at most
-few_seats : (k : Plain) (t c : ℕ) (clusters : List ClusterState) → AllSound k c clusters → AllManned (home_prio k) clusters → seats t (all_cpus clusters) ≤ cond (nat_lt (thread_at k t).home c) 0 1
+few_seats : (k : Plain) (t c : ℕ) (clusters : List ClusterState) → AllSound k c clusters → AllManned (urgency k) c clusters → seats t (all_cpus clusters) ≤ cond (nat_lt (thread_at k t).home c) 0 1
 few_seats k t c [] sound manned = omega arith
 few_seats k t c (cluster ∷ clusters) sound manned =
-    let here = stands_home k c t (seats t cluster.cpus) (omega (arith, manned.0 t, runs_once k (home_prio k) c (length cluster.cpus) cluster.line sound.0.line t)) in
+    let here = stands_home k c t (seats t cluster.cpus) (omega (arith, manned.0 t, runs_once k (urgency k c) c (length cluster.cpus) cluster.line sound.0.line t)) in
     omega (arith, seats-append t cluster.cpus (all_cpus clusters), here_or_behind (thread_at k t).home c (seats t cluster.cpus) (seats t (all_cpus clusters)) here (few_seats k t (c + 1) clusters sound.1 manned.1))
 
 some_seat : (t p : ℕ) (cpus : List (Option ℕ)) → get_or cpus p None ≡ Some t → 0 < seats t cpus
@@ -173,7 +164,7 @@ same_seat t (suc p) (suc q) (None ∷ cpus) few e f = ap (λ n. suc n) (same_sea
 same_seat t (suc p) (suc q) (Some u ∷ cpus) few e f = ap (λ n. suc n) (same_seat t p q cpus (omega (arith, few)) e f)
 
 -- No thread has two processors.
-pub seated_once : (k : Plain) (p q t : ℕ) → IsSound k → AreManned k → cpu_at k p ≡ Some t → cpu_at k q ≡ Some t → p ≡ q
+seated_once : (k : Plain) (p q t : ℕ) → IsSound k → AreManned k → cpu_at k p ≡ Some t → cpu_at k q ≡ Some t → p ≡ q
 seated_once k p q t sound manned e f =
     let few = few_seats k t 0 k.clusters sound.clusters manned in
     same_seat t p q (all_cpus k.clusters) (one (nat_lt (thread_at k t).home 0) few) e f where
@@ -190,8 +181,9 @@ runs_seated : (k : Plain) (o : Option ℕ) (t : ℕ) → view_of k o ≡ Runs t 
 runs_seated k None t e = let no : ⊥ = cc in absurd no
 runs_seated k (Some u) t e = runs_by u t (spins k u) e
 
+-- No thread runs on two processors.
+pub run_once : (k : Plain) → IsSound k → AreManned k → RunOnce k
+run_once k sound manned p q t e f = seated_once k p q t sound manned (runs_seated k (cpu_at k p) t e) (runs_seated k (cpu_at k q) t f)
+
 pub none_twice : NoneRunsTwice
-none_twice s xs is legal p q t e f =
-    let k = after s xs in
-    let both = manned_after s xs is in
-    seated_once k p q t both.0 both.1 (runs_seated k (cpu_at k p) t e) (runs_seated k (cpu_at k q) t f)
+none_twice s xs is legal = let both = manned_after s xs is in run_once (after s xs) both.0 both.1

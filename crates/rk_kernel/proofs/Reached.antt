@@ -7,9 +7,9 @@ use Rattle.rk_model.specs.declared.entry.What.TheVariants.{Tick, End}
 use Rattle.rk_model.specs.declared.state.Armed.{Armed}
 use Rattle.rk_model.specs.State.{Plain}
 use Rattle.rk_model.specs.Settling.{settle}
-use Rattle.rk_model.specs.Running.{caller, least}
+use Rattle.rk_model.specs.Running.{caller, is_quiet}
 use Rattle.rk_model.specs.Ticks.{pass, expire, fire, fire_each, fire_cluster, fire_from, tick}
-use Rattle.rk_model.specs.Steps.{Act, action, act_of, clock_of, clock_entry, act}
+use Rattle.rk_model.specs.Steps.{Act, action, act_of, clock_at, clock_of, clock_entry, act}
 use Rattle.rk_model.specs.Histories.{vacant, started, opening, next_of, next_by, after_from, after, Legal}
 use Rattle.rk_model.specs.Limits.{IsWithinLimits}
 use Rattle.rk_model.specs.Scenarios.{IsScenario}
@@ -38,7 +38,7 @@ both_settled : (P : Plain → Type 0) → IsKept P → (k next : Plain) (last : 
 both_settled P kept k next last gentle both = (sound_settled k next last both.0 gentle, kept.settled k next last both.0 gentle both.1)
 
 count-settled : (k next : Plain) (last : List ℕ) → IsGentle k next → length (settle k next last).clusters ≡ length k.clusters
-count-settled k next last gentle = length-settled _ _ next.threads 0 next.clusters ∙ length-kept k.clusters next.clusters gentle.lines
+count-settled k next last gentle = length-settled k next last ∙ length-kept k.clusters next.clusters gentle.lines
 
 -- the timers of a cluster that are due fire, and there are as many clusters then
 both_each : (P : Plain → Type 0) → IsKept P → (k : Plain) (c : ℕ) (timers : List Armed) → due_now k c ≡ timers → c < length k.clusters → Both P k → Both P (fire_each k c timers) × (length (fire_each k c timers).clusters ≡ length k.clusters)
@@ -69,17 +69,24 @@ of_processor P kept k p None is both = tt
 of_processor P kept k p (Some t) is both =
     both_settled P kept k (after_outcome k t (action k t)) (option_to_list (last_of (answer_of (action k t)))) (action_done k t (acting_of k p t both.0 is)).after both
 
-of_clock : (P : Plain → Type 0) → IsKept P → (k : Plain) (o : Option ℕ) → Both P k → AllNext (Both P) (clock_of k o)
-of_clock P kept k (Some p) both = tt
-of_clock P kept k None both = by P kept k (ltb k.present k.scenario.horizon) refl both where
-  by : (P : Plain → Type 0) → IsKept P → (k : Plain) (b : Bool) → ltb k.present k.scenario.horizon ≡ b → Both P k → AllNext (Both P) (cond b (Some (let a : Act = record { entry = clock_entry Tick; next = tick k } in a)) (Some (let a : Act = record { entry = clock_entry End; next = k } in a)))
-  by P kept k true e both = both_tick P kept k (grind (arith, nat_tests, e)) both
-  by P kept k false e both = both
+at_clock : (P : Plain → Type 0) → IsKept P → (k : Plain) → Both P k → AllNext (Both P) (clock_at k)
+at_clock P kept k both = by P kept k (ltb k.present k.scenario.horizon) (eqb k.present k.scenario.horizon) refl both where
+  by : (P : Plain → Type 0) → IsKept P → (k : Plain) (b d : Bool) → ltb k.present k.scenario.horizon ≡ b → Both P k →
+      AllNext (Both P) (cond b (Some (let a : Act = record { entry = clock_entry Tick; next = tick k } in a)) (cond d (Some (let a : Act = record { entry = clock_entry End; next = k } in a)) None))
+  by P kept k true d e both = both_tick P kept k (grind (arith, nat_tests, e)) both
+  by P kept k false true e both = both
+  by P kept k false false e both = tt
+
+of_clock : (P : Plain → Type 0) → IsKept P → (k : Plain) → Both P k → AllNext (Both P) (clock_of k)
+of_clock P kept k both = by P kept k (is_quiet k) both where
+  by : (P : Plain → Type 0) → IsKept P → (k : Plain) (b : Bool) → Both P k → AllNext (Both P) (cond b (clock_at k) None)
+  by P kept k true both = at_clock P kept k both
+  by P kept k false both = tt
 
 both_act : (P : Plain → Type 0) → IsKept P → (k : Plain) (q : ℕ) → Both P k → AllNext (Both P) (act k q)
 both_act P kept k q both = by P kept k q (eqb q 8) both where
-  by : (P : Plain → Type 0) → IsKept P → (k : Plain) (q : ℕ) (b : Bool) → Both P k → AllNext (Both P) (cond b (clock_of k (least k)) (act_of k q (caller k q)))
-  by P kept k q true both = of_clock P kept k (least k) both
+  by : (P : Plain → Type 0) → IsKept P → (k : Plain) (q : ℕ) (b : Bool) → Both P k → AllNext (Both P) (cond b (clock_of k) (act_of k q (caller k q)))
+  by P kept k q true both = of_clock P kept k both
   by P kept k q false both = of_processor P kept k q (caller k q) refl both
 
 -- to ask nothing more is kept

@@ -1,8 +1,9 @@
 //! Laws over the definitions: the contract of each function is a law, and calling it does nothing.
 //!
-//! Each speaks of the state after any legal history of a scenario.
+//! Each speaks of the state after any legal history of a scenario, but for the last, which speaks of the
+//! history in which the least processor that has a directive always acts.
 
-ghost use Rattle.rk_kernel.specs.Laws.{LinesHoldTheirOwn, ProcessorsHaveTheRunners, RunnersAreTheMostUrgent, NoneRunsTwice, NoneActsAtWork, RefusalsChangeTheCallerAlone};
+ghost use Rattle.rk_kernel.specs.Laws.{LinesHoldTheirOwn, ProcessorsHaveTheRunners, RunnersAreTheMostUrgent, NoneRunsTwice, NamesAndObjectsAgree, NothingIsLeftOfDeletedTasks, NoneActsAtWork, RefusalsChangeTheCallerAlone, LowestGoesOn};
 
 /// The line of each cluster holds exactly the eligible threads of that home, each once.
 pub fn lines_hold_their_own()
@@ -25,6 +26,17 @@ pub fn none_runs_twice()
     ensures { NoneRunsTwice }
 {}
 
+/// In each class each index from 1 to 64 is that of one live object, once, or is free, once; and an
+/// object lives exactly where it has begun.
+pub fn names_and_objects_agree()
+    ensures { NamesAndObjectsAgree }
+{}
+
+/// Where no task lives, there is no thread: nothing is left there of one that was deleted.
+pub fn nothing_is_left_of_deleted_tasks()
+    ensures { NothingIsLeftOfDeletedTasks }
+{}
+
 /// A directive never acts for a line of work or a goto: a thread that has a directive and doesn't
 /// return from one is at another line, or behind the last.
 pub fn none_acts_at_work()
@@ -35,4 +47,10 @@ pub fn none_acts_at_work()
 /// in the directive's result variable, where it has one, and nothing else of the state changed.
 pub fn refusals_change_the_caller_alone()
     ensures { RefusalsChangeTheCallerAlone }
+{}
+
+/// The history in which the least processor that has a directive always acts ends with End, or has as
+/// many entries as it was cut to.
+pub fn lowest_goes_on()
+    ensures { LowestGoesOn }
 {}

@@ -1,5 +1,5 @@
--- A planned history that doesn't end with End has as many entries as the limit.
-use Rattle.std.proofs.Common.{◌≡◌, ℕ, zero, suc, ◌+◌, ◌<◌, ◌≤◌, List, [], Bool, true, false, cond, eqb, nat_lt, Option, Some, None, length, unwrap_or, arith, refl}
+-- The history in which the least processor always acts goes on up to its end.
+use Rattle.std.proofs.Common.{◌≡◌, ◌⊎◌, inl, inr, ℕ, zero, suc, ◌+◌, ◌<◌, ◌≤◌, List, [], Bool, true, false, cond, eqb, ltb, Option, Some, None, length, unwrap_or, arith, refl, sym, ◌∙◌}
 use Rattle.std.proofs.lemmas.Bool.Decides.{nat_tests}
 use Rattle.rk_model.specs.declared.scenario.Scenario.{Scenario}
 use Rattle.rk_model.specs.declared.entry.Entry.{Entry}
@@ -7,10 +7,12 @@ use Rattle.rk_model.specs.declared.entry.What.TheVariants.{Tick, End}
 use Rattle.rk_model.specs.State.{Plain}
 use Rattle.rk_model.specs.Running.{cpu_count, caller, first_of, least_from, least}
 use Rattle.rk_model.specs.Ticks.{tick}
-use Rattle.rk_model.specs.Steps.{Act, act, act_of, clock_entry}
-use Rattle.rk_model.specs.Histories.{opening, is_end, ends_from, ends, turn, lowest_on, lowest_from, lowest}
+use Rattle.rk_model.specs.Steps.{Act, act, act_of, clock_at, clock_entry}
+use Rattle.rk_model.specs.Histories.{opening, is_end, ends, turn, lowest_on, lowest_from, lowest}
 use Rattle.rk_model.specs.Scenarios.{IsScenario}
+use Rattle.rk_model.proofs.Legality.{ends_from, ends_is}
 use Rattle.rk_model.proofs.Limits.{limits_of}
+use Rattle.rk_kernel.specs.Laws.{LowestGoesOn}
 use Rattle.rk_kernel.specs.Sound.{IsSound}
 use Rattle.rk_kernel.proofs.Openings.{sound_opening}
 use Rattle.rk_kernel.proofs.Reached.{sound_act}
@@ -21,9 +23,14 @@ use Rattle.rk_kernel.proofs.Reached.{sound_act}
 abbrev Goes : Option Act → Type 0
 Goes acted = (a : Act) × (acted ≡ Some a)
 
-clock_goes : (k : Plain) (b : Bool) → Goes (cond b (Some (record { entry = clock_entry Tick; next = tick k })) (Some (record { entry = clock_entry End; next = k })))
-clock_goes k true = (_, refl)
-clock_goes k false = (_, refl)
+-- the clock of a quiet kernel ticks, or ends the run at the horizon
+clock_goes : (k : Plain) → k.present ≤ k.scenario.horizon → Goes (clock_at k)
+clock_goes k within = by k (ltb k.present k.scenario.horizon) (eqb k.present k.scenario.horizon) refl refl within where
+  by : (k : Plain) (b d : Bool) → ltb k.present k.scenario.horizon ≡ b → eqb k.present k.scenario.horizon ≡ d → k.present ≤ k.scenario.horizon →
+      Goes (cond b (Some (let a : Act = record { entry = clock_entry Tick; next = tick k } in a)) (cond d (Some (let a : Act = record { entry = clock_entry End; next = k } in a)) None))
+  by k true d e f within = (_, refl)
+  by k false true e f within = (_, refl)
+  by k false false e f within = absurd (grind (arith, nat_tests, e, f, within))
 
 caller_goes : (k : Plain) (p t : ℕ) → Goes (act_of k p (Some t))
 caller_goes k p t = (_, refl)
@@ -44,14 +51,14 @@ least_found k p (suc n) =
     let rest : Found k (p + suc n) (least_from k (p + 1) n) = rw e (least_found k (p + 1) n) in
     found_first k p (p + suc n) (caller k p) (least_from k (p + 1) n) refl (omega arith) rest
 
-turn_goes : (k : Plain) (first : Option ℕ) → least k ≡ first → Found k (cpu_count k) first → cpu_count k ≤ 8 → Goes (act k (unwrap_or first 8))
-turn_goes k None e found few = rw e (clock_goes k (nat_lt k.present k.scenario.horizon))
-turn_goes k (Some p) e found few =
+turn_goes : (k : Plain) (first : Option ℕ) → least k ≡ first → Found k (cpu_count k) first → cpu_count k ≤ 8 → k.present ≤ k.scenario.horizon → Goes (act k (unwrap_or first 8))
+turn_goes k None e found few within = rw e (clock_goes k within)
+turn_goes k (Some p) e found few within =
     let other : eqb p 8 ≡ false = grind (arith, nat_tests, found.2, few) in
     rw (other, found.1) (caller_goes k p found.0)
 
-goes : (k : Plain) → cpu_count k ≤ 8 → Goes (act k (turn k))
-goes k few = turn_goes k (least k) refl (let e : 0 + cpu_count k ≡ cpu_count k = omega arith in rw e at (least_found k 0 (cpu_count k))) few
+goes : (k : Plain) → IsSound k → Goes (act k (turn k))
+goes k sound = turn_goes k (least k) refl (let e : 0 + cpu_count k ≡ cpu_count k = omega arith in rw e at (least_found k 0 (cpu_count k))) sound.few_cpus sound.present
 
 -- ---- the length of a history
 
@@ -62,11 +69,18 @@ cut_behind false rest n cut unended = cut unended
 cut_from : (n : ℕ) (k : Plain) (before : Bool) → IsSound k → ends_from before (lowest_from n k) ≡ false → length (lowest_from n k) ≡ n
 cut_from zero k before sound unended = refl
 cut_from (suc n) k before sound unended =
-    let step = goes k sound.few_cpus in
+    let step = goes k sound in
     let unended' : ends_from before (lowest_on (lowest_from n) (Some step.0)) ≡ false = rw step.1 at unended in
     let rest = cut_behind (is_end step.0.entry.what) (lowest_from n step.0.next) n (cut_from n step.0.next (is_end step.0.entry.what) (sound_act k (turn k) step.0 sound step.1)) unended' in
     rw step.1 (omega (arith, rest))
 
 -- a history that always the least processor that has a directive made, and that was cut, has as many entries as it may have
 pub cut_lowest : (s : Scenario) (n : ℕ) → IsScenario s → ends (lowest s n) ≡ false → length (lowest s n) ≡ n
-cut_lowest s n known unended = cut_from n (opening s) false (sound_opening s (limits_of s known)) unended
+cut_lowest s n known unended = cut_from n (opening s) false (sound_opening s (limits_of s known)) (sym (ends_is (lowest s n)) ∙ unended)
+
+-- it ends with End, or has as many entries as it may have
+pub lowest_goes : LowestGoesOn
+lowest_goes s n known = by (ends (lowest s n)) refl where
+  by : (b : Bool) → ends (lowest s n) ≡ b → (ends (lowest s n) ≡ true) ⊎ (length (lowest s n) ≡ n)
+  by true e = inl e
+  by false e = inr (cut_lowest s n known e)

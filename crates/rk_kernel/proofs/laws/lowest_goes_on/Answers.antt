@@ -1,0 +1,5 @@
+use Rattle.rk_kernel.proofs.Going.{lowest_goes}
+use Rattle.rk_kernel.proofs.laws.lowest_goes_on.Goals as goal
+
+pub returns : goal.returns
+returns c = lowest_goes
