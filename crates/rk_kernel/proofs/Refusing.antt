@@ -8,8 +8,8 @@ use Rattle.rk_model.specs.declared.state.Thread.{Thread}
 use Rattle.rk_model.specs.declared.settling.Standing.{Standing}
 use Rattle.rk_model.specs.Status.{status_code}
 use Rattle.rk_model.specs.State.{Plain, no_thread, thread_at, put_thread}
-use Rattle.rk_model.specs.Priorities.{is_started, is_no_wait, spins_in, is_eligible, prio, or_least_urgent, home_prio, standing, standings, standings_from}
-use Rattle.rk_model.specs.Running.{caller, least}
+use Rattle.rk_model.specs.Priorities.{standing, standings, standings_from}
+use Rattle.rk_model.specs.Running.{caller, is_quiet}
 use Rattle.rk_model.specs.Settling.{settle}
 use Rattle.rk_model.specs.Outcomes.{Outcome, Refused, Done, Waiting, Gone, answer_of, status_of, last_of, go_on, after_outcome}
 use Rattle.rk_model.specs.Steps.{Act, act, act_of, clock_of, clock_entry, action, action_on, what_of, directive}
@@ -21,7 +21,8 @@ use Rattle.rk_model.proofs.Indices.{nth-with_kept, length-with_nth}
 use Rattle.rk_kernel.proofs.Callers.{acting_of}
 use Rattle.rk_kernel.proofs.Directing.{op_fair}
 use Rattle.rk_kernel.proofs.Fair.{op_of, IsFair}
-use Rattle.rk_kernel.proofs.Passing.{spins_alike}
+use Rattle.rk_parts.specs.Threads.{own_standing}
+use Rattle.rk_parts.proofs.Standings.{standing_own}
 use Rattle.rk_kernel.specs.Manned.{AreManned}
 use Rattle.rk_kernel.proofs.Manning.{manned_after}
 use Rattle.rk_kernel.proofs.Stillness.{settled_still}
@@ -29,26 +30,15 @@ use Rattle.rk_kernel.proofs.Stillness.{settled_still}
 no_refusal : {X : Type 0} → false ≡ true → X
 no_refusal h = absurd (false≢true h)
 
--- how a thread stands, by what it is
-abbrev standing_by : Plain → Thread → Standing
-standing_by k x = record { eligible = is_started x.life && not x.suspended && (is_no_wait x.wait || spins_in k x.wait); prio = or_least_urgent (cond (x.home == x.home) (Some x.base) None) }
-
-standing_is : (k : Plain) (t : ℕ) → standing k t ≡ standing_by k (thread_at k t)
-unfolding standing is_eligible home_prio prio
-standing_is k t = refl
-
-standing_alike : (k n : Plain) (x : Thread) → standing_by n x ≡ standing_by k x
-standing_alike k n x = ap (λ b. (let s : Standing = record { eligible = is_started x.life && not x.suspended && (is_no_wait x.wait || b); prio = or_least_urgent (cond (x.home == x.home) (Some x.base) None) } in s)) (spins_alike k n x.wait)
-
 standings_alike : (k n : Plain) (t m : ℕ) → ((u : ℕ) → standing n u ≡ standing k u) → standings_from n t m ≡ standings_from k t m
 standings_alike k n t zero same = refl
 standings_alike k n t (suc m) same = rw (same t, standings_alike k n (t + 1) m same) refl
 
 -- where a thread is put that stands as the one before it, all stand as before
-standings-put_thread : (k : Plain) (t : ℕ) (thread : Thread) → standing_by k thread ≡ standing_by k (thread_at k t) → standings (put_thread k t thread) ≡ standings k
+standings-put_thread : (k : Plain) (t : ℕ) (thread : Thread) → own_standing thread ≡ own_standing (thread_at k t) → standings (put_thread k t thread) ≡ standings k
 standings-put_thread k t thread same =
     let n = put_thread k t thread in
-    standings_alike k n 1 (length n.threads) (λ u. standing_is n u ∙ standing_alike k n (thread_at n u) ∙ nth-with_kept (standing_by k) no_thread thread k.threads t u same ∙ sym (standing_is k u))
+    standings_alike k n 1 (length n.threads) (λ u. standing_own n u ∙ nth-with_kept own_standing no_thread thread k.threads t u same ∙ sym (standing_own k u))
     ∙ ap (standings_from k 1) (length-with_nth thread k.threads t)
 
 -- what has the status of a refusal has the form of one, as far as it is fair
@@ -82,17 +72,18 @@ unfolding action
 of_processor k p None is sound manned = tt
 of_processor k p (Some t) is sound manned = λ h. of_call k t (thread_at k t).finished refl (acting_of k p t sound is) manned h
 
-of_clock : (k : Plain) (o : Option ℕ) → AllRefusals k (clock_of k o)
-of_clock k (Some p) = tt
-of_clock k None = by (ltb k.present k.scenario.horizon) where
-  by : (b : Bool) → AllRefusals k (cond b (Some (let a : Act = record { entry = clock_entry Tick; next = tick k } in a)) (Some (let a : Act = record { entry = clock_entry End; next = k } in a)))
-  by true = λ h. no_refusal h
-  by false = λ h. no_refusal h
+of_clock : (k : Plain) → AllRefusals k (clock_of k)
+of_clock k = by (is_quiet k) (ltb k.present k.scenario.horizon) (eqb k.present k.scenario.horizon) where
+  by : (quiet b d : Bool) → AllRefusals k (cond quiet (cond b (Some (let a : Act = record { entry = clock_entry Tick; next = tick k } in a)) (cond d (Some (let a : Act = record { entry = clock_entry End; next = k } in a)) None)) None)
+  by true true d = λ h. no_refusal h
+  by true false true = λ h. no_refusal h
+  by true false false = tt
+  by false b d = tt
 
 of_seat : (k : Plain) (q : ℕ) → IsSound k → AreManned k → AllRefusals k (act k q)
 of_seat k q sound manned = by (eqb q 8) where
-  by : (b : Bool) → AllRefusals k (cond b (clock_of k (least k)) (act_of k q (caller k q)))
-  by true = of_clock k (least k)
+  by : (b : Bool) → AllRefusals k (cond b (clock_of k) (act_of k q (caller k q)))
+  by true = of_clock k
   by false = of_processor k q (caller k q) refl sound manned
 
 -- What a seat does that is a refusal changes the caller alone.

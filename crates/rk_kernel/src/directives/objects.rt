@@ -1,6 +1,6 @@
 //! What directives of all classes of objects share: making, naming and removing an object.
 
-ghost use Rattle.std.specs.Prelude.{◌≡◌, ◌≤◌, IfOk, true};
+ghost use Rattle.std.specs.Prelude.{◌≡◌, ◌≤◌, IfOk, None, true};
 ghost use Rattle.rk_model.specs.Objects.{is_live, ident, without_object};
 ghost use Rattle.rk_kernel.specs.Does.{Does, Creates};
 ghost use Rattle.rk_parts.specs.Pieces.{plain_of};
@@ -19,6 +19,7 @@ pub(crate) fn create(
     refusal: Option<Status>,
 ) -> Result<u16, Status>
     ensures made { Creates (plain_of core.old) class name.bits refusal result (plain_of core.new) }
+    ensures accepted { IfOk result (λ index. refusal ≡ None) }
     ensures within { IfOk result (λ index. (1 ≤ index) × (index ≤ 64)) }
     ensures kept { stored core.new ≡ stored core.old }
 {
