@@ -1,5 +1,5 @@
 -- The processors of each cluster have its runners, each on one.
-use Rattle.std.proofs.Common.{◌≡◌, ℕ, zero, suc, ◌+◌, ◌<◌, ◌≤◌, List, [], ◌∷◌, ◌++◌, Bool, true, false, cond, ◌==◌, ◌&&◌, nat_lt, Option, None, Some, length, map, replicate, get_or, ⊎_elim, arith, refl, sym, ap, subst, ◌∙◌}
+use Rattle.std.proofs.Common.{◌≡◌, ℕ, zero, suc, ◌+◌, ◌<◌, ◌≤◌, List, [], ◌∷◌, ◌++◌, Bool, true, false, cond, ◌==◌, ◌&&◌, nat_lt, Option, None, Some, length, map, replicate, get_or, arith, refl, sym, ap, subst, ◌∙◌}
 use Rattle.std.specs.List.{slice_index_or}
 use Rattle.std.proofs.lemmas.Bool.Decides.{nat_tests}
 use Rattle.rk_model.specs.declared.scenario.Scenario.{Scenario}
@@ -10,7 +10,7 @@ use Rattle.rk_model.specs.Lists.{times}
 use Rattle.rk_model.specs.State.{Plain, ClusterState, no_cluster, thread_at, cluster_at}
 use Rattle.rk_model.specs.Priorities.{is_eligible, spins, prio, or_least_urgent, urgency, standings}
 use Rattle.rk_model.specs.Lines.{most_urgent, assigned}
-use Rattle.rk_model.specs.Settling.{moves, moved, settle}
+use Rattle.rk_model.specs.Settling.{moves, moved}
 use Rattle.rk_model.specs.Running.{all_cpus, cpu_at, view_of}
 use Rattle.rk_model.specs.Ticks.{pass}
 use Rattle.rk_model.specs.Steps.{Act, act}

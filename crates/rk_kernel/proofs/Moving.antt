@@ -8,7 +8,7 @@ use Rattle.rk_model.specs.declared.settling.Move.{Move}
 use Rattle.rk_model.specs.declared.settling.Move.TheVariants.{Stay, Leave, ToEnd, ToFront}
 use Rattle.rk_model.specs.Lists.{has, times}
 use Rattle.rk_model.specs.State.{Plain, no_thread, thread_at}
-use Rattle.rk_model.specs.Priorities.{is_eligible, home_prio, standing, standings, nth_standing}
+use Rattle.rk_model.specs.Priorities.{is_eligible, standing, standings, nth_standing}
 use Rattle.rk_model.specs.Settling.{is_cluster, belongs, is_stay, is_to_end, is_to_front, move_of, moves, making, moved}
 use Rattle.rk_model.proofs.Counts.{times-append, times-filter, has_times, has_none, once_in_range}
 use Rattle.rk_parts.proofs.Tests.{and_false}

@@ -1,5 +1,5 @@
 -- Settling after a gentle change has room, and keeps a state sound.
-use Rattle.std.proofs.Common.{◌≡◌, ℕ, ◌+◌, ◌≤◌, List, [], ◌∷◌, length, length-append, arith, refl, ap, sym, subst, ◌∙◌}
+use Rattle.std.proofs.Common.{◌≡◌, ℕ, ◌+◌, List, [], ◌∷◌, length, length-append, arith, refl, ap, sym, subst, ◌∙◌}
 use Rattle.std.proofs.lemmas.List.{length-map}
 use Rattle.rk_model.specs.declared.settling.Standing.{Standing}
 use Rattle.rk_model.specs.declared.settling.Move.{Move}
@@ -15,7 +15,7 @@ use Rattle.rk_parts.specs.Pieces.{cluster_of, clusters_of, plain_of}
 use Rattle.rk_parts.specs.Pinned.{Stored, stored, key_of, AllKeyed, AreNumbered, AllHeld, CanSettle, IsNoted}
 use Rattle.rk_parts.specs.Settled.{settled_cluster, settled_from}
 use Rattle.rk_parts.proofs.Settling.{settle_each}
-use Rattle.rk_kernel.specs.Sound.{stands, own, IsClusterSound, AllSound, IsSound, KeepsLines, AllTimed, IsGentle}
+use Rattle.rk_kernel.specs.Sound.{stands, own, AllSound, IsSound, KeepsLines, AllTimed, IsGentle}
 use Rattle.rk_kernel.proofs.Moving.{line_belongs, line_moved}
 
 pub length-kept : (olds news : List ClusterState) → KeepsLines olds news → length news ≡ length olds
