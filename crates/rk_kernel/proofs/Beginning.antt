@@ -1,5 +1,5 @@
 -- The names of the tasks of init lines agree with their threads.
-use Rattle.std.proofs.Common.{◌≡◌, ℕ, zero, suc, ◌+◌, ◌-◌, ◌<◌, ◌≤◌, List, [], ◌∷◌, ◌++◌, cond, false, true, ◌&&◌, nat_le, nat_lt, Option, length, map, take, get_or, length-take, length-append, arith, refl, sym, ap, ◌∙◌, subst}
+use Rattle.std.proofs.Common.{◌≡◌, ℕ, zero, suc, ◌+◌, ◌-◌, ◌<◌, ◌≤◌, List, [], ◌∷◌, ◌++◌, cond, false, ◌&&◌, nat_le, nat_lt, Option, length, map, take, get_or, length-take, length-append, arith, refl, sym, ap, ◌∙◌, subst}
 use Rattle.std.specs.List.{range_with_len}
 use Rattle.std.proofs.lemmas.List.{take_more}
 use Rattle.std.proofs.lemmas.Bool.{false≢true}
@@ -109,11 +109,12 @@ names_more inits i none within few =
     let grown : length (done ++ init ∷ []) ≡ i + 1 = omega (arith, length-append done (init ∷ []), size) in
     let live : named_from 1 (done ++ init ∷ []) ≡ named_from 1 done ++ (let x : Named = record { index = i + 1; name = init.name } in x) ∷ [] =
     named_push 1 done init ∙ ap (λ n. named_from 1 done ++ (let x : Named = record { index = n; name = init.name } in x) ∷ []) (ap (λ n. 1 + n) size ∙ e) in
-    let free : (begun_names (done ++ init ∷ [])).free ≡ range_with_len (i + 1 + 1) (64 - (i + 1)) = ap (λ n. range_with_len (n + 1) (64 - n)) grown in
-    (first,
-    ap (λ (xs : List Named). (let x : Names = record { live = xs; free = range_with_len (i + 1 + 1) (64 - (i + 1)) } in x)) (sym live)
-    ∙ ap (λ (xs : List ℕ). (let x : Names = record { live = named_from 1 (done ++ init ∷ []); free = xs } in x)) (sym free)
-    ∙ ap begun_names (sym more))
+    let free : (begun_names (done ++ init ∷ [])).free ≡ range_with_len (i + 1 + 1) (64 - (i + 1)) = ap (λ n. range_with_len (n + 1) (64 - n)) grown in (
+      first,
+      ap (λ (xs : List Named). (let x : Names = record { live = xs; free = range_with_len (i + 1 + 1) (64 - (i + 1)) } in x)) (sym live)
+          ∙ ap (λ (xs : List ℕ). (let x : Names = record { live = named_from 1 (done ++ init ∷ []); free = xs } in x)) (sym free)
+          ∙ ap begun_names (sym more),
+    )
 
 takes_first : (index name : ℕ) (free rest : List ℕ) (found : Option ℕ) (old new : Table) → free ≡ index ∷ rest → TakesIn free Task name found old new → new ≡ with_names Task (taken old.tasks index rest name) old
 takes_first index name free rest found old new is takes = (subst (λ (xs : List ℕ). TakesIn xs Task name found old new) is takes).1

@@ -1,13 +1,12 @@
 -- Work that is charged, processor by processor.
-use Rattle.std.proofs.Common.{◌≡◌, ◌≢◌, ℕ, zero, suc, ◌+◌, ◌<◌, ◌≤◌, List, [], ◌∷◌, Bool, true, false, cond, eqb, ◌==◌, ◌||◌, Option, Some, None, length, get_or, ⊎_elim, arith, refl, ap, sym, ◌∙◌, subst}
-use Rattle.std.proofs.lemmas.Bool.{false≢true, cases_lt}
+use Rattle.std.proofs.Common.{◌≡◌, ℕ, zero, suc, ◌+◌, ◌<◌, ◌≤◌, List, [], ◌∷◌, Bool, true, false, cond, ◌==◌, ◌||◌, Option, Some, None, length, get_or, arith, refl, ap, sym, ◌∙◌}
+use Rattle.std.proofs.lemmas.Bool.{false≢true}
 use Rattle.std.proofs.lemmas.Bool.Decides.{nat_tests}
-use Rattle.std.proofs.lemmas.List.{ext_get_or, get_or_past}
+use Rattle.std.proofs.lemmas.List.{ext_get_or}
 use Rattle.rk_model.specs.declared.scenario.Scenario.{Scenario}
 use Rattle.rk_model.specs.declared.entry.View.{View}
 use Rattle.rk_model.specs.declared.entry.View.TheVariants.{Idle, Spins, Runs}
 use Rattle.rk_model.specs.declared.state.Thread.{Thread}
-use Rattle.rk_model.specs.declared.state.Wait.{Wait}
 use Rattle.rk_model.specs.Lists.{nth, with_nth}
 use Rattle.rk_model.specs.State.{Plain, no_thread, thread_at}
 use Rattle.rk_model.specs.Priorities.{spins_in, spins}

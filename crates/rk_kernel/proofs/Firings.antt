@@ -4,7 +4,6 @@ use Rattle.std.specs.List.{slice_set}
 use Rattle.std.proofs.lemmas.List.{set-get_or, get_or-set_same, length-set}
 use Rattle.std.proofs.lemmas.Bool.Decides.{nat_tests}
 use Rattle.rk_model.specs.declared.settling.Move.{Move}
-use Rattle.rk_model.specs.declared.state.Thread.{Thread}
 use Rattle.rk_model.specs.declared.state.Armed.{Armed}
 use Rattle.rk_model.specs.declared.state.Armer.{Armer}
 use Rattle.rk_model.specs.declared.state.Armer.TheVariants.{Thread as OfThread}

@@ -4,6 +4,7 @@ pub mod Timing
 pub mod Gentle
 pub mod Fair
 pub mod Tasking
+pub mod Creating
 pub mod Sleeping
 pub mod Moving
 pub mod Soundness

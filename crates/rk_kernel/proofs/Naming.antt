@@ -8,7 +8,7 @@ use Rattle.rk_model.specs.declared.ids.Class.{Class}
 use Rattle.rk_model.specs.declared.ids.Class.TheVariants.{Task}
 use Rattle.rk_model.specs.declared.ids.Named.{Named}
 use Rattle.rk_model.specs.declared.state.Thread.{Thread}
-use Rattle.rk_model.specs.Lists.{has, nth, with_nth, times}
+use Rattle.rk_model.specs.Lists.{nth, with_nth, times}
 use Rattle.rk_model.specs.Names.{Names, Table, names_of, with_names, indices, lives, taken, given_back}
 use Rattle.rk_model.specs.State.{no_thread}
 use Rattle.rk_model.specs.Tasks.{has_begun, begun_in}

@@ -10,7 +10,7 @@ use Rattle.rk_model.specs.declared.state.Life.TheVariants.{Started}
 use Rattle.rk_model.specs.declared.state.Thread.{Thread}
 use Rattle.rk_parts.specs.declared.core_state.ClusterPart.{ClusterPart}
 use Rattle.rk_parts.specs.Pieces.{cluster_of, clusters_of}
-use Rattle.rk_model.specs.Lists.{nth, with_nth, times, has}
+use Rattle.rk_model.specs.Lists.{nth, with_nth, times}
 use Rattle.rk_cluster.specs.Clusters.{Cluster, empty_cluster}
 use Rattle.rk_model.specs.Settling.{belongs}
 use Rattle.rk_parts.specs.declared.core_state.Core.{Core}

@@ -1,5 +1,5 @@
 -- The directives of the task manager are fair.
-use Rattle.std.proofs.Common.{◌≡◌, ◌≢◌, ℕ, ◌&&◌, ◌||◌, nat_lt, List, ◌∷◌, Bool, true, false, cond, eqb, Option, None, Some, length, arith, refl, sym, ◌∙◌, ap}
+use Rattle.std.proofs.Common.{◌≡◌, ◌≢◌, ℕ, ◌&&◌, nat_lt, List, ◌∷◌, Bool, true, false, cond, eqb, Option, None, Some, length, arith, refl, sym, ◌∙◌, ap}
 use Rattle.std.proofs.lemmas.Bool.{false≢true}
 use Rattle.rk_model.specs.declared.ids.Class.TheVariants.{Task}
 use Rattle.rk_model.specs.declared.scenario.Target.{Target}

@@ -53,6 +53,8 @@ fn charge_all(core: &mut Core)
 {
     for cpu in 0..count_cpus(core.clusters.as_slice()) {
         if let View::Runs(thread) = view_on(core, cpu) {
+            // Reading the index tells its range.
+            let _index = thread.at();
             let next = charged(&core.scenario, core.threads.get(thread));
             core.threads.renew(thread, next);
         }

@@ -34,7 +34,10 @@ fn compare(cluster: u8, before: &Standing, now: &Standing, last: bool) -> Move
 {
     if !is_number(cluster, now.cluster) {
         Move::Leave
-    } else if !is_number(cluster, before.cluster) || now.prio.level() < before.prio.level() || last {
+    } else if !is_number(cluster, before.cluster)
+        || now.prio.level() < before.prio.level()
+        || last
+    {
         Move::ToEnd
     } else if before.prio.level() < now.prio.level() {
         Move::ToFront

@@ -97,10 +97,10 @@ fn prio_refusal(prio: u32) -> Option<Status>
 pub(crate) fn task_create(core: &mut Core, caller: ThreadIx, name: Name, prio: u32) -> Answer
     ensures { Does (task_create (plain_of core.old) caller name.bits prio) result core.old core.new }
 {
+    let home = core.threads.get(caller).home;
     match create(core, Class::Task, name, prio_refusal(prio)) {
         Err(status) => Answer::Refused(status),
         Ok(index) => {
-            let home = core.threads.get(caller).home;
             let made = dormant_in(home, Prio::new(prio as u8));
             core.threads.put(ThreadIx::new(index as u8), made);
             done(Id::of(Class::Task, index).bits)
@@ -223,12 +223,7 @@ fn with_base(core: &mut Core, task: ThreadIx, base: Prio)
 /// to the end of its line, and answers the priority that it had in its home; with 0 it only answers
 /// that. It refuses with `INVALID_ID` where the task is unknown, and with `INVALID_PRIORITY` where the
 /// priority is above 255.
-pub(crate) fn task_set_priority(
-    core: &mut Core,
-    caller: ThreadIx,
-    id: Target,
-    prio: u32,
-) -> Answer
+pub(crate) fn task_set_priority(core: &mut Core, caller: ThreadIx, id: Target, prio: u32) -> Answer
     requires { AreNamed core.old.table core.old.threads.places }
     ensures { Does (task_set_priority (plain_of core.old) caller id prio) result core.old core.new }
 {

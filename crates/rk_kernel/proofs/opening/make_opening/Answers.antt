@@ -1,12 +1,10 @@
-use Rattle.std.proofs.Common.{◌≡◌, List, [], length, ap, sym, ◌∙◌, subst}
-use Rattle.std.proofs.lemmas.List.{length-map}
+use Rattle.std.proofs.Common.{◌≡◌, List, [], ap, sym, ◌∙◌}
 use Rattle.rk_model.specs.declared.state.Thread.{Thread}
 use Rattle.rk_model.specs.Names.{Table, no_objects}
 use Rattle.rk_model.specs.State.{Plain}
-use Rattle.rk_model.specs.Priorities.{standings}
 use Rattle.rk_model.specs.Histories.{vacant, started, begun_names}
 use Rattle.rk_parts.specs.declared.core_state.Core.{Core}
-use Rattle.rk_parts.specs.Pieces.{plain_of, cluster_of}
+use Rattle.rk_parts.specs.Pieces.{plain_of}
 use Rattle.rk_kernel.proofs.Openings.{sound_vacant, gentle_started, can_open, standings_vacant}
 use Rattle.rk_kernel.proofs.Ready.{settled_next, settled_sound}
 use Rattle.rk_kernel.proofs.opening.make_opening.Goals as goal

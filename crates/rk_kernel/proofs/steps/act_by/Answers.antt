@@ -1,8 +1,8 @@
-use Rattle.std.proofs.Common.{rules, ◌≡◌, Option, ℕ, ap, ◌∙◌}
+use Rattle.std.proofs.Common.{rules, Option, ℕ, ap, ◌∙◌}
 use Rattle.std.specs.Option.{option_to_list}
 use Rattle.rk_model.specs.declared.entry.Answer.{Answer}
 use Rattle.rk_model.specs.Settling.{settle}
-use Rattle.rk_model.specs.Outcomes.{answer_of, after_outcome, last_of}
+use Rattle.rk_model.specs.Outcomes.{after_outcome, last_of}
 use Rattle.rk_model.specs.Steps.{action}
 use Rattle.rk_parts.specs.Pieces.{plain_of}
 use Rattle.rk_kernel.proofs.Callers.{acting_of}
