@@ -1,3 +1,4 @@
 pub mod Views
 pub mod Cut
 pub mod Runs
+pub mod Digits
