@@ -56,7 +56,7 @@ fn write_refusal(alloc: Global, line: u32, why: ScenarioWhy) -> Result<Vec<u8>, 
 {
     let mut text = Vec::new(alloc);
     push_text(&mut text, "scenario line ")?;
-    push_decimal(alloc, &mut text, line)?;
+    push_decimal(&mut text, line)?;
     push_text(&mut text, ": ")?;
     push_why(&mut text, why)?;
     push_text(&mut text, "\n")?;

@@ -1,10 +1,9 @@
 //! Pieces of text, added at the end of what is being made.
 
-ghost use Rattle.std.specs.Prelude.{◌≡◌, ◌++◌, OnOk, false};
-ghost use Rattle.std.specs.Fmt.{decimal, digits};
+ghost use Rattle.std.specs.Prelude.{◌≡◌, ◌<◌, ◌≤◌, ◌++◌, OnOk, false};
+ghost use Rattle.std.specs.Fmt.{decimal, digits, digit_glyph};
 
 use rk_model::NoMemory;
-use std::alloc::Global;
 
 /// Adds bytes.
 pub(crate) fn push_bytes(out: &mut Vec<u8>, bytes: &[u8]) -> Result<(), NoMemory>
@@ -21,18 +20,51 @@ pub(crate) fn push_text(out: &mut Vec<u8>, text: &str) -> Result<(), NoMemory>
     push_bytes(out, text.as_bytes())
 }
 
+/// The most digits of a number of 32 bits in a base from 10 on.
+const MOST_DIGITS: usize = 10;
+
+/// The digit of a number, up to 15.
+fn digit(number: u32) -> u8
+    requires { number < 16 }
+    ensures { result ≡ digit_glyph false number }
+{
+    if number < 10 {
+        b'0' + number as u8
+    } else {
+        b'a' - 10 + number as u8
+    }
+}
+
+/// Adds a number in the digits of a base.
+#[tactic(auto, using(crate::proofs::Digits::digit_steps))]
+fn push_digits(out: &mut Vec<u8>, base: u32, number: u32) -> Result<(), NoMemory>
+    requires { (10 ≤ base) × (base ≤ 16) }
+    ensures { OnOk result (out.new.items ≡ out.old.items ++ digits base false number) }
+{
+    let mut text = [0u8; MOST_DIGITS];
+    let mut start = MOST_DIGITS;
+    let mut left = number;
+    loop {
+        start -= 1;
+        text[start] = digit(left % base);
+        left /= base;
+        if left == 0 {
+            break;
+        }
+    }
+    push_bytes(out, &text[start..])
+}
+
 /// Adds a number in decimal digits.
-pub(crate) fn push_decimal(alloc: Global, out: &mut Vec<u8>, number: u32) -> Result<(), NoMemory>
+pub(crate) fn push_decimal(out: &mut Vec<u8>, number: u32) -> Result<(), NoMemory>
     ensures { OnOk result (out.new.items ≡ out.old.items ++ decimal number) }
 {
-    let text = number.to_string(alloc)?;
-    push_bytes(out, text.as_bytes())
+    push_digits(out, 10, number)
 }
 
 /// Adds a number in hexadecimal digits.
-pub(crate) fn push_hex(alloc: Global, out: &mut Vec<u8>, number: u32) -> Result<(), NoMemory>
+pub(crate) fn push_hex(out: &mut Vec<u8>, number: u32) -> Result<(), NoMemory>
     ensures { OnOk result (out.new.items ≡ out.old.items ++ digits 16 false number) }
 {
-    let text = format!(in alloc; "{number:x}")?;
-    push_bytes(out, text.as_bytes())
+    push_digits(out, 16, number)
 }

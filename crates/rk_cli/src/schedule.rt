@@ -24,23 +24,17 @@ fn push_word(out: &mut Vec<u8>, op: Option<Op>) -> Result<(), NoMemory>
 
 /// Adds the code of a status and an out number.
 #[tactic(auto, unfolding(rk_model::specs::Schedules::reply_text))]
-fn push_reply(alloc: Global, out: &mut Vec<u8>, status: u8, number: u32) -> Result<(), NoMemory>
+fn push_reply(out: &mut Vec<u8>, status: u8, number: u32) -> Result<(), NoMemory>
     ensures { OnOk result (out.new.items ≡ out.old.items ++ reply_text status number) }
 {
-    push_decimal(alloc, out, u32::from(status))?;
+    push_decimal(out, u32::from(status))?;
     push_bytes(out, b" ".as_slice())?;
-    push_hex(alloc, out, number)
+    push_hex(out, number)
 }
 
 /// Adds what stands behind the directive's word.
 #[tactic(auto, unfolding(rk_model::specs::Schedules::answer_text))]
-fn push_answer(
-    alloc: Global,
-    out: &mut Vec<u8>,
-    what: What,
-    status: u8,
-    number: u32,
-) -> Result<(), NoMemory>
+fn push_answer(out: &mut Vec<u8>, what: What, status: u8, number: u32) -> Result<(), NoMemory>
     ensures { OnOk result (out.new.items ≡ out.old.items ++ answer_text what status number) }
 {
     match what {
@@ -49,12 +43,12 @@ fn push_answer(
                 push_text(out, " waits")
             } else {
                 push_text(out, " done ")?;
-                push_reply(alloc, out, status, number)
+                push_reply(out, status, number)
             }
         }
         What::Return => {
             push_text(out, " back ")?;
-            push_reply(alloc, out, status, number)
+            push_reply(out, status, number)
         }
         What::Tick | What::End => Ok(()),
     }
@@ -72,52 +66,42 @@ fn push_name(out: &mut Vec<u8>, scenario: &Scenario, body: u8) -> Result<(), NoM
 
 /// Adds the processor and the task of a directive.
 #[tactic(auto, unfolding(rk_model::specs::Schedules::seat_text))]
-fn push_seat(alloc: Global, out: &mut Vec<u8>, entry: &Entry) -> Result<(), NoMemory>
+fn push_seat(out: &mut Vec<u8>, entry: &Entry) -> Result<(), NoMemory>
     ensures { OnOk result (out.new.items ≡ out.old.items ++ seat_text entry.now) }
 {
     push_text(out, "p")?;
-    push_decimal(alloc, out, u32::from(entry.seat))?;
+    push_decimal(out, u32::from(entry.seat))?;
     push_text(out, " t")?;
-    push_decimal(alloc, out, u32::from(entry.task))?;
+    push_decimal(out, u32::from(entry.task))?;
     push_text(out, " ")
 }
 
 /// Adds the body and the line of a directive.
 #[tactic(auto, unfolding(rk_model::specs::Schedules::place_text))]
-fn push_place(
-    alloc: Global,
-    out: &mut Vec<u8>,
-    scenario: &Scenario,
-    entry: &Entry,
-) -> Result<(), NoMemory>
+fn push_place(out: &mut Vec<u8>, scenario: &Scenario, entry: &Entry) -> Result<(), NoMemory>
     ensures { OnOk result (out.new.items ≡ out.old.items ++ place_text scenario.now entry.now) }
 {
     push_name(out, scenario, entry.body)?;
     push_text(out, ":")?;
-    push_decimal(alloc, out, u32::from(entry.line))?;
+    push_decimal(out, u32::from(entry.line))?;
     push_text(out, " ")
 }
 
 /// Adds the line of a directive.
 #[tactic(auto, unfolding(rk_model::specs::Schedules::directive_text))]
-fn push_directive(
-    alloc: Global,
-    out: &mut Vec<u8>,
-    scenario: &Scenario,
-    entry: &Entry,
-) -> Result<(), NoMemory>
+fn push_directive(out: &mut Vec<u8>, scenario: &Scenario, entry: &Entry) -> Result<(), NoMemory>
     ensures { OnOk result (out.new.items ≡ out.old.items ++ directive_text scenario.now entry.now) }
 {
-    push_seat(alloc, out, entry)?;
-    push_place(alloc, out, scenario, entry)?;
+    push_seat(out, entry)?;
+    push_place(out, scenario, entry)?;
     push_word(out, scenario.op_at(entry.body, entry.line))?;
-    push_answer(alloc, out, entry.what, entry.status, entry.out)?;
+    push_answer(out, entry.what, entry.status, entry.out)?;
     push_bytes(out, b"\n".as_slice())
 }
 
 /// Adds what a processor does.
 #[tactic(auto, unfolding(rk_model::specs::Schedules::view_text))]
-fn push_view(alloc: Global, out: &mut Vec<u8>, parts: &Parts, cpu: u8) -> Result<(), NoMemory>
+fn push_view(out: &mut Vec<u8>, parts: &Parts, cpu: u8) -> Result<(), NoMemory>
     requires { cpu < cpu_count parts.now }
     ensures { OnOk result (out.new.items ≡ out.old.items ++ view_text (running parts.now cpu)) }
 {
@@ -125,50 +109,45 @@ fn push_view(alloc: Global, out: &mut Vec<u8>, parts: &Parts, cpu: u8) -> Result
         View::Idle => push_text(out, " -"),
         View::Spins(thread) => {
             push_text(out, " s")?;
-            push_decimal(alloc, out, u32::from(thread.at()))
+            push_decimal(out, u32::from(thread.at()))
         }
         View::Runs(thread) => {
             push_text(out, " t")?;
-            push_decimal(alloc, out, u32::from(thread.at()))
+            push_decimal(out, u32::from(thread.at()))
         }
     }
 }
 
 /// Adds what each processor does.
-fn push_views(alloc: Global, out: &mut Vec<u8>, parts: &Parts) -> Result<(), NoMemory>
+fn push_views(out: &mut Vec<u8>, parts: &Parts) -> Result<(), NoMemory>
     ensures { OnOk result (out.new.items ≡ out.old.items ++ views_from parts.now 0 (cpu_count parts.now)) }
 {
     let count = cpus_of(parts);
     for cpu in 0..count {
-        push_view(alloc, out, parts, cpu)?;
+        push_view(out, parts, cpu)?;
     }
     Ok(())
 }
 
 /// Adds the line of the tick that comes next.
 #[tactic(auto, unfolding(rk_model::specs::Schedules::tick_text))]
-fn push_tick(alloc: Global, out: &mut Vec<u8>, parts: &Parts) -> Result<(), NoMemory>
+fn push_tick(out: &mut Vec<u8>, parts: &Parts) -> Result<(), NoMemory>
     ensures { OnOk result (out.new.items ≡ out.old.items ++ tick_text parts.now) }
 {
     push_text(out, "tick ")?;
-    push_decimal(alloc, out, tick_of(parts) + 1)?;
-    push_views(alloc, out, parts)?;
+    push_decimal(out, tick_of(parts) + 1)?;
+    push_views(out, parts)?;
     push_bytes(out, b"\n".as_slice())
 }
 
 /// Adds the line of the entry that comes next.
 #[tactic(auto, unfolding(rk_model::specs::Schedules::entry_text))]
-fn push_entry(
-    alloc: Global,
-    out: &mut Vec<u8>,
-    parts: &Parts,
-    entry: &Entry,
-) -> Result<(), NoMemory>
+fn push_entry(out: &mut Vec<u8>, parts: &Parts, entry: &Entry) -> Result<(), NoMemory>
     ensures { OnOk result (out.new.items ≡ out.old.items ++ entry_text parts.now entry.now entry.now.what) }
 {
     match entry.what {
-        What::Call | What::Return => push_directive(alloc, out, scenario_of(parts), entry),
-        What::Tick => push_tick(alloc, out, parts),
+        What::Call | What::Return => push_directive(out, scenario_of(parts), entry),
+        What::Tick => push_tick(out, parts),
         What::End => Ok(()),
     }
 }
@@ -185,7 +164,7 @@ fn push_entries(
 {
     let mut parts = open_parts(alloc, scenario)?;
     for entry in entries {
-        push_entry(alloc, out, &parts, entry)?;
+        push_entry(out, &parts, entry)?;
         replay(&mut parts, entry.seat);
     }
     Ok(())
@@ -193,17 +172,12 @@ fn push_entries(
 
 /// Adds the last line.
 #[tactic(auto, unfolding(rk_model::specs::Schedules::last_text))]
-fn push_last(
-    alloc: Global,
-    out: &mut Vec<u8>,
-    scenario: &Scenario,
-    ended: bool,
-) -> Result<(), NoMemory>
+fn push_last(out: &mut Vec<u8>, scenario: &Scenario, ended: bool) -> Result<(), NoMemory>
     ensures { OnOk result (out.new.items ≡ out.old.items ++ last_text scenario.now ended) }
 {
     if ended {
         push_text(out, "end ")?;
-        push_decimal(alloc, out, scenario.horizon)?;
+        push_decimal(out, scenario.horizon)?;
         push_bytes(out, b"\n".as_slice())
     } else {
         push_text(out, "limit\n")
@@ -245,6 +219,6 @@ pub fn write_schedule(
     let mut text = Vec::new(alloc);
     push_text(&mut text, "schedule 1\n")?;
     push_entries(alloc, &mut text, scenario, entries)?;
-    push_last(alloc, &mut text, scenario, ends_with_end(entries))?;
+    push_last(&mut text, scenario, ends_with_end(entries))?;
     Ok(text)
 }

@@ -1,17 +1,21 @@
 -- When a call may answer that it failed.
-use Rattle.std.specs.Prelude.{ℕ, ◌+◌, ◌-◌, ◌^◌, ◌≤◌, min, Result, Ok, Err, OnErr}
+use Rattle.std.specs.Prelude.{ℕ, ◌≡◌, ◌⊎◌, ◌+◌, ◌-◌, ◌^◌, ◌<◌, ◌≤◌, min, Result, Ok, Err, OnErr}
 use Rattle.rk_io.specs.declared.source.ReadError.{ReadError}
 use Rattle.rk_io.specs.declared.source.ReadError.TheVariants as read
 use Rattle.rk_io.specs.declared.sink.WriteError.{WriteError}
 use Rattle.rk_io.specs.declared.sink.WriteError.TheVariants as write
 
--- one more, up to the greatest number of 64 bits
-abbrev pub one_more : ℕ → ℕ
-one_more n = min (n + 1) (2 ^ 64 - 1)
+-- the greatest number of 64 bits, at which a count stays
+abbrev pub greatest_count : ℕ
+greatest_count = 2 ^ 64 - 1
 
--- a count of faults is greater than before, or stands at the greatest number of 64 bits
+-- one more, up to the greatest
+abbrev pub one_more : ℕ → ℕ
+one_more n = min (n + 1) greatest_count
+
+-- a count of faults rose: it is greater than before, or was the greatest before and still is
 abbrev pub Rose : ℕ → ℕ → Type 0
-Rose before now = one_more before ≤ now
+Rose before now = (before < now) ⊎ ((before ≡ greatest_count) × (now ≡ greatest_count))
 
 -- a count of faults after a call: one more where the call failed
 abbrev pub faults_after : {T E : Type 0} → Result T E → ℕ → ℕ

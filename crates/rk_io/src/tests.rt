@@ -1,6 +1,8 @@
+ghost use Rattle.std.specs.Prelude.{None};
+
 use crate::{
-    MemSink, MemSource, ReadError, StdSink, StdSource, SureSink, SureSource, WriteError, read_all,
-    write_all,
+    Failed, MemSink, MemSource, ReadError, Source, StdSink, StdSource, SureSink, SureSource,
+    WriteError, read_all, write_all,
 };
 use std::io;
 use std::io::{ErrorKind, Read};
@@ -66,6 +68,38 @@ impl Read for Broken {
         buf[0] = b'r';
         Ok(1)
     }
+}
+
+/// A source that gives a byte at each call but the second, at which it tells the end.
+#[derive(Drop)]
+struct EndsOnce {
+    calls: u64,
+}
+
+impl Source for EndsOnce {
+    ghost left = { λ _. None };
+
+    ghost faults = { λ _. 0 };
+
+    fn read(&mut self, buf: &mut [u8]) -> Result<u64, Failed> {
+        self.calls = self.calls.saturating_add(1);
+        if self.calls == 2 {
+            return Ok(0);
+        }
+        buf[0] = b'r';
+        Ok(1)
+    }
+}
+
+#[test]
+fn reads_no_more_after_the_end(rt: HostRuntime) -> Result<(), Fail> {
+    let alloc = rt.alloc();
+    let mut source = EndsOnce { calls: 0 };
+    let input = read_all(alloc, &mut source, 1000)?;
+    assert!(rt; input.whole);
+    assert_eq!(rt; input.bytes.as_slice(), b"r".as_slice());
+    assert_eq!(rt; source.calls, 2);
+    Ok(())
 }
 
 #[test]
