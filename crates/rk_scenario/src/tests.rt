@@ -1,6 +1,6 @@
 use crate::ScenarioError;
 use crate::read::read_scenario;
-use rk_model::{Init, Name, Op, Prio, Scenario, ScenarioWhy, Target};
+use rk_model::{Init, Name, Op, Prio, ScenarioWhy, Target};
 use std::alloc::Global;
 use std::test::Fail;
 
@@ -211,104 +211,62 @@ fn counts_bodies(rt: HostRuntime) -> Result<(), Fail> {
     Ok(())
 }
 
-/// A text with everything that a text may have.
-const WHOLE: &str = "# A scenario.\n\nrtems 1\n  cluster  0x00000001 \ncluster 7\nticks 1000000\n\
-                     limit 1\nbody first\nwork 1000000\n\n# between\ntask.wake_after 0xffffffff\nend\n\
-                     body second_1\n\x20 work   7\ntask.suspend self\ngoto 2\ntask.resume 0x0a010001\n\
-                     task.resume 0\ngoto 0x00000005\nend\ninit T_1a 1 255 second_1\n\
-                     init aaaa 0 0x00000001 first";
-
-/// The scenario of that text.
-fn whole(alloc: Global) -> Result<Scenario, Fail> {
-    let scenario = read_scenario(alloc, WHOLE.as_bytes())
-        .ok()
-        .ok_or("it is a text")?;
-    Ok(scenario)
+#[test]
+fn reads_lines_of_bodies(rt: HostRuntime) -> Result<(), Fail> {
+    let name = Name { bits: 0x545f_3161 };
+    let rows = [
+        ("work 1000000\n", Op::Work(1_000_000)),
+        ("# none\n\n  work   0x00000007 \n", Op::Work(7)),
+        ("goto 0x00000001\n", Op::Goto(1)),
+        ("task.create T_1a 5 v0\n", Op::TaskCreate(name, 5, 0)),
+        (
+            "task.create - 0xffffffff v7\n",
+            Op::TaskCreate(Name { bits: 0 }, 4_294_967_295, 7),
+        ),
+        ("task.ident T_1a v3\n", Op::TaskIdent(name, 3)),
+        ("task.start v3 a\n", Op::TaskStart(Target::Var(3), 0)),
+        ("task.start self b\n", Op::TaskStart(Target::Own, 1)),
+        ("task.suspend self\n", Op::TaskSuspend(Target::Own)),
+        (
+            "task.resume 0x0a010001\n",
+            Op::TaskResume(Target::Given(0x0a01_0001)),
+        ),
+        (
+            "task.set_priority v3 0 v1\n",
+            Op::TaskSetPriority(Target::Var(3), 0, 1),
+        ),
+        ("task.delete 0\n", Op::TaskDelete(Target::Given(0))),
+        (
+            "task.wake_after 4294967295\n",
+            Op::TaskWakeAfter(4_294_967_295),
+        ),
+    ];
+    let open = repeated(rt.alloc(), FRONT, "body a\nend\nbody b\nwork 1\n", 1, "")?;
+    for (line, op) in rows {
+        let text = repeated(rt.alloc(), open.as_str(), line, 1, "end\n")?;
+        let scenario = read_scenario(rt.alloc(), text.as_bytes())?;
+        let body = scenario.bodies.get(1).ok_or("a body")?;
+        assert_eq!(rt; body.lines.as_slice(), [Op::Work(1), op].as_slice());
+    }
+    Ok(())
 }
 
 #[test]
-fn reads_numbers_and_bodies(rt: HostRuntime) -> Result<(), Fail> {
-    let scenario = whole(rt.alloc())?;
+fn reads_the_lines_around_bodies(rt: HostRuntime) -> Result<(), Fail> {
+    let text = "rtems 1\ncluster 1\ncluster 7\nticks 1000000\nlimit 1\n\
+                body b_1\nend\ninit T_1a 1 255 b_1\ninit aaaa 0 0x00000001 b_1";
+    let scenario = read_scenario(rt.alloc(), text.as_bytes())?;
     assert_eq!(rt; scenario.clusters.as_slice(), [1, 7].as_slice());
     assert_eq!(rt; (scenario.horizon, scenario.limit), (1_000_000, 1));
-    assert_eq!(rt; scenario.bodies.len(), 2);
-    let first = scenario.bodies.get(0).ok_or("a body")?;
-    assert_eq!(rt; first.name.as_slice(), b"first".as_slice());
-    let lines = [Op::Work(1_000_000), Op::TaskWakeAfter(4_294_967_295)];
-    assert_eq!(rt; first.lines.as_slice(), lines.as_slice());
-    let second = scenario.bodies.get(1).ok_or("a body")?;
-    assert_eq!(rt; second.name.as_slice(), b"second_1".as_slice());
-    let lines = [
-        Op::Work(7),
-        Op::TaskSuspend(Target::Own),
-        Op::Goto(2),
-        Op::TaskResume(Target::Given(0x0a01_0001)),
-        Op::TaskResume(Target::Given(0)),
-        Op::Goto(5),
-    ];
-    assert_eq!(rt; second.lines.as_slice(), lines.as_slice());
-    Ok(())
-}
-
-/// A text with each line of tasks.
-const TASKS: &str = "rtems 1\ncluster 1\nticks 0\nbody first\ntask.create T_1a 5 v0\n\
-                     task.create - 0xffffffff v7\ntask.ident T_1a v3\ntask.start v3 first\nend\n\
-                     body second\ntask.start 0x0a010001 first\ntask.start self second\n\
-                     task.set_priority v3 0 v1\ntask.set_priority self 4294967295 v7\n\
-                     task.suspend v3\ntask.resume v0\ntask.delete v3\ntask.delete self\n\
-                     task.delete 0\ngoto 2\nend\n";
-
-#[test]
-fn reads_lines_of_tasks(rt: HostRuntime) -> Result<(), Fail> {
-    let scenario = read_scenario(rt.alloc(), TASKS.as_bytes())
-        .ok()
-        .ok_or("it is a text")?;
-    let first = scenario.bodies.get(0).ok_or("a body")?;
-    let name = Name { bits: 0x545f_3161 };
-    let lines = [
-        Op::TaskCreate(name, 5, 0),
-        Op::TaskCreate(Name { bits: 0 }, 4_294_967_295, 7),
-        Op::TaskIdent(name, 3),
-        Op::TaskStart(Target::Var(3), 0),
-    ];
-    assert_eq!(rt; first.lines.as_slice(), lines.as_slice());
-    let second = scenario.bodies.get(1).ok_or("a body")?;
-    let lines = [
-        Op::TaskStart(Target::Given(0x0a01_0001), 0),
-        Op::TaskStart(Target::Own, 1),
-        Op::TaskSetPriority(Target::Var(3), 0, 1),
-        Op::TaskSetPriority(Target::Own, 4_294_967_295, 7),
-        Op::TaskSuspend(Target::Var(3)),
-        Op::TaskResume(Target::Var(0)),
-        Op::TaskDelete(Target::Var(3)),
-        Op::TaskDelete(Target::Own),
-        Op::TaskDelete(Target::Given(0)),
-        Op::Goto(2),
-    ];
-    assert_eq!(rt; second.lines.as_slice(), lines.as_slice());
-    Ok(())
-}
-
-#[test]
-fn has_a_limit_without_one(rt: HostRuntime) -> Result<(), Fail> {
-    let text = "rtems 1\ncluster 2\ncluster 2\ncluster 2\ncluster 2\nticks 0\n";
-    let scenario = read_scenario(rt.alloc(), text.as_bytes())
-        .ok()
-        .ok_or("it is a text")?;
-    assert_eq!(rt; scenario.clusters.as_slice(), [2, 2, 2, 2].as_slice());
-    assert_eq!(rt; scenario.limit, 200_000);
-    Ok(())
-}
-
-#[test]
-fn reads_inits(rt: HostRuntime) -> Result<(), Fail> {
-    let scenario = whole(rt.alloc())?;
+    assert_eq!(rt; scenario.bodies.len(), 1);
+    let body = scenario.bodies.get(0).ok_or("a body")?;
+    assert_eq!(rt; body.name.as_slice(), b"b_1".as_slice());
     let inits = [
         Init {
             name: Name { bits: 0x545f_3161 },
             cluster: 1,
             prio: Prio::new(255),
-            body: 1,
+            body: 0,
         },
         Init {
             name: Name { bits: 0x6161_6161 },
@@ -318,5 +276,14 @@ fn reads_inits(rt: HostRuntime) -> Result<(), Fail> {
         },
     ];
     assert_eq!(rt; scenario.inits.as_slice(), inits.as_slice());
+    Ok(())
+}
+
+#[test]
+fn has_a_limit_without_one(rt: HostRuntime) -> Result<(), Fail> {
+    let text = "rtems 1\ncluster 2\ncluster 2\ncluster 2\ncluster 2\nticks 0\n";
+    let scenario = read_scenario(rt.alloc(), text.as_bytes())?;
+    assert_eq!(rt; scenario.clusters.as_slice(), [2, 2, 2, 2].as_slice());
+    assert_eq!(rt; scenario.limit, 200_000);
     Ok(())
 }
