@@ -195,11 +195,10 @@ fn is_end_entry(entry: &Entry) -> bool
 pub(crate) fn ends_with_end(entries: &[Entry]) -> bool
     ensures { result ≡ ends entries.now }
 {
-    let mut ended = false;
-    for entry in entries {
-        ended = is_end_entry(entry);
+    match entries.last() {
+        None => false,
+        Some(entry) => is_end_entry(entry),
     }
-    ended
 }
 
 /// The schedule of a history: the header, the lines of its entries in their order, and the last
