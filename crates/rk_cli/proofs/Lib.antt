@@ -1,4 +1,4 @@
-pub mod Views
-pub mod Runs
-pub mod Digits
-pub mod Ends
+pub mod ViewLemmas
+pub mod PlanLemmas
+pub mod DigitLemmas
+pub mod EndLemmas

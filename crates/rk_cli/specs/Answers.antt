@@ -3,7 +3,7 @@ use Rattle.std.specs.Prelude.{ℕ, ◌≡◌, ◌≤◌, List, [], ◌∷◌, Op
 use Rattle.rk_io.specs.Causes.{Rose}
 use Rattle.rk_io.specs.Bytes.{Appends, AppendsPrefix}
 use Rattle.rk_model.specs.declared.scenario.Scenario.{Scenario}
-use Rattle.rk_model.specs.Reading.{Fault}
+use Rattle.rk_model.specs.Text.Reading.{Fault}
 use Rattle.rk_model.specs.Histories.{ends}
 use Rattle.rk_cli.specs.declared.answer.Answer.{Answer}
 use Rattle.rk_cli.specs.declared.answer.Answer.TheVariants.{Planned, Limited, Refused, ReadFault, NoMemory}

@@ -2,8 +2,8 @@
 use Rattle.std.specs.Prelude.{ℕ, ◌≡◌, ◌⊎◌, List, Option, Some, length}
 use Rattle.rk_io.specs.Bytes.{Consumes, IsUsedUp}
 use Rattle.rk_model.specs.declared.scenario.Scenario.{Scenario}
-use Rattle.rk_model.specs.Scenarios.{ScenarioText}
-use Rattle.rk_model.specs.Reading.{Fault, scenario_fault}
+use Rattle.rk_model.specs.Text.Scenarios.{ScenarioText}
+use Rattle.rk_model.specs.Text.Reading.{Fault, scenario_fault}
 
 -- The source was read to its end, and the bytes that it gave are a text of the scenario.
 pub record HasScenario (before now : Option (List ℕ)) (s : Scenario) : Type 0 where

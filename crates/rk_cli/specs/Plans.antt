@@ -2,7 +2,7 @@
 use Rattle.std.specs.Prelude.{ℕ, ◌≡◌, ◌⊎◌, List, [], Option, true, false, length}
 use Rattle.rk_io.specs.Bytes.{Appends, AppendsPrefix}
 use Rattle.rk_model.specs.declared.scenario.Scenario.{Scenario}
-use Rattle.rk_model.specs.Reading.{Fault}
+use Rattle.rk_model.specs.Text.Reading.{Fault}
 use Rattle.rk_model.specs.Histories.{ends}
 use Rattle.rk_cli.specs.Texts.{refusal_text, planned, plan_text}
 use Rattle.rk_cli.specs.Inputs.{HasScenario, HasFault}

@@ -1,8 +1,8 @@
 -- When each status comes.
 use Rattle.std.specs.Prelude.{ℕ, ◌≡◌, ◌⊎◌, List, [], ◌∷◌, Option, Some, None, codes, if◌then◌else◌}
 use Rattle.rk_model.specs.declared.scenario.Scenario.{Scenario}
-use Rattle.rk_model.specs.Scenarios.{ScenarioText}
-use Rattle.rk_model.specs.Reading.{Fault, scenario_fault}
+use Rattle.rk_model.specs.Text.Scenarios.{ScenarioText}
+use Rattle.rk_model.specs.Text.Reading.{Fault, scenario_fault}
 use Rattle.rk_model.specs.Histories.{ends}
 use Rattle.rk_cli.specs.Texts.{planned}
 

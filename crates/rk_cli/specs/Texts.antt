@@ -5,9 +5,9 @@ use Rattle.rk_model.specs.declared.scenario.Scenario.{Scenario}
 use Rattle.rk_model.specs.declared.scenario.ScenarioWhy.{ScenarioWhy}
 use Rattle.rk_model.specs.declared.scenario.ScenarioWhy.TheVariants.{Header, TooLarge, NotYetBuilt}
 use Rattle.rk_model.specs.declared.entry.Entry.{Entry}
-use Rattle.rk_model.specs.Reading.{Fault}
+use Rattle.rk_model.specs.Text.Reading.{Fault}
 use Rattle.rk_model.specs.Histories.{lowest}
-use Rattle.rk_model.specs.Schedules.{schedule_text}
+use Rattle.rk_model.specs.Text.Schedules.{schedule_text}
 
 -- how the program is called
 unfoldable pub usage_text : List ℕ

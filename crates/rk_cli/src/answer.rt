@@ -3,7 +3,7 @@
 ghost use Rattle.std.specs.Prelude.{◌≡◌, ◌≤◌, ◌++◌, OnOk, IfOk};
 ghost use Rattle.rk_io.specs.Bytes.{ConsumesPrefix};
 ghost use Rattle.rk_model.specs.Histories.{ends};
-ghost use Rattle.rk_model.specs.Scenarios.{IsScenario};
+ghost use Rattle.rk_model.specs.Text.Scenarios.{IsScenario};
 ghost use Rattle.rk_cli.specs.Texts.{why_text, refusal_text, planned, plan_text};
 ghost use Rattle.rk_cli.specs.Answers.{IsAnswer};
 

@@ -36,7 +36,7 @@ fn digit(number: u32) -> u8
 }
 
 /// Adds a number in the digits of a base.
-#[tactic(auto, using(crate::proofs::Digits::digit_steps))]
+#[tactic(auto, using(crate::proofs::DigitLemmas::digit_steps))]
 fn push_digits(out: &mut Vec<u8>, base: u32, number: u32) -> Result<(), NoMemory>
     requires { (10 ≤ base) × (base ≤ 16) }
     ensures { OnOk result (out.new.items ≡ out.old.items ++ digits base false number) }

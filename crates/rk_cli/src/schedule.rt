@@ -2,10 +2,10 @@
 
 ghost use Rattle.std.specs.Prelude.{◌≡◌, ◌<◌, ◌++◌, ◌∷◌, [], false, OnOk, IfOk, slice_get};
 ghost use Rattle.std.specs.Fmt.{decimal, digits};
-ghost use Rattle.rk_model.specs.Running.{running, cpu_count};
+ghost use Rattle.rk_model.specs.Scheduling.Running.{running, cpu_count};
 ghost use Rattle.rk_model.specs.Histories.{opening, is_end, ends};
-ghost use Rattle.rk_model.specs.Scenarios.{IsScenario};
-ghost use Rattle.rk_model.specs.Schedules.{first_word, reply_text, answer_text, name_in, seat_text, place_text, directive_text, view_text, views_from, tick_text, entry_text, text_from, last_text, schedule_text};
+ghost use Rattle.rk_model.specs.Text.Scenarios.{IsScenario};
+ghost use Rattle.rk_model.specs.Text.Schedules.{first_word, reply_text, answer_text, name_in, seat_text, place_text, directive_text, view_text, views_from, tick_text, entry_text, text_from, last_text, schedule_text};
 
 use crate::pieces::{push_bytes, push_decimal, push_hex, push_text};
 use rk_kernel::{Parts, cpus_of, open_parts, replay, run_view, scenario_of, tick_of};
@@ -23,7 +23,7 @@ fn push_word(out: &mut Vec<u8>, op: Option<Op>) -> Result<(), NoMemory>
 }
 
 /// Adds the code of a status and an out number.
-#[tactic(auto, unfolding(rk_model::specs::Schedules::reply_text))]
+#[tactic(auto, unfolding(rk_model::specs::Text::Schedules::reply_text))]
 fn push_reply(out: &mut Vec<u8>, status: u8, number: u32) -> Result<(), NoMemory>
     ensures { OnOk result (out.new.items ≡ out.old.items ++ reply_text status number) }
 {
@@ -33,7 +33,7 @@ fn push_reply(out: &mut Vec<u8>, status: u8, number: u32) -> Result<(), NoMemory
 }
 
 /// Adds what stands behind the directive's word.
-#[tactic(auto, unfolding(rk_model::specs::Schedules::answer_text))]
+#[tactic(auto, unfolding(rk_model::specs::Text::Schedules::answer_text))]
 fn push_answer(out: &mut Vec<u8>, what: What, status: u8, number: u32) -> Result<(), NoMemory>
     ensures { OnOk result (out.new.items ≡ out.old.items ++ answer_text what status number) }
 {
@@ -65,7 +65,7 @@ fn push_name(out: &mut Vec<u8>, scenario: &Scenario, body: u8) -> Result<(), NoM
 }
 
 /// Adds the processor and the task of a directive.
-#[tactic(auto, unfolding(rk_model::specs::Schedules::seat_text))]
+#[tactic(auto, unfolding(rk_model::specs::Text::Schedules::seat_text))]
 fn push_seat(out: &mut Vec<u8>, entry: &Entry) -> Result<(), NoMemory>
     ensures { OnOk result (out.new.items ≡ out.old.items ++ seat_text entry.now) }
 {
@@ -77,7 +77,7 @@ fn push_seat(out: &mut Vec<u8>, entry: &Entry) -> Result<(), NoMemory>
 }
 
 /// Adds the body and the line of a directive.
-#[tactic(auto, unfolding(rk_model::specs::Schedules::place_text))]
+#[tactic(auto, unfolding(rk_model::specs::Text::Schedules::place_text))]
 fn push_place(out: &mut Vec<u8>, scenario: &Scenario, entry: &Entry) -> Result<(), NoMemory>
     ensures { OnOk result (out.new.items ≡ out.old.items ++ place_text scenario.now entry.now) }
 {
@@ -88,7 +88,7 @@ fn push_place(out: &mut Vec<u8>, scenario: &Scenario, entry: &Entry) -> Result<(
 }
 
 /// Adds the line of a directive.
-#[tactic(auto, unfolding(rk_model::specs::Schedules::directive_text))]
+#[tactic(auto, unfolding(rk_model::specs::Text::Schedules::directive_text))]
 fn push_directive(out: &mut Vec<u8>, scenario: &Scenario, entry: &Entry) -> Result<(), NoMemory>
     ensures { OnOk result (out.new.items ≡ out.old.items ++ directive_text scenario.now entry.now) }
 {
@@ -100,7 +100,7 @@ fn push_directive(out: &mut Vec<u8>, scenario: &Scenario, entry: &Entry) -> Resu
 }
 
 /// Adds what a processor does.
-#[tactic(auto, unfolding(rk_model::specs::Schedules::view_text))]
+#[tactic(auto, unfolding(rk_model::specs::Text::Schedules::view_text))]
 fn push_view(out: &mut Vec<u8>, parts: &Parts, cpu: u8) -> Result<(), NoMemory>
     requires { cpu < cpu_count parts.now }
     ensures { OnOk result (out.new.items ≡ out.old.items ++ view_text (running parts.now cpu)) }
@@ -130,7 +130,7 @@ fn push_views(out: &mut Vec<u8>, parts: &Parts) -> Result<(), NoMemory>
 }
 
 /// Adds the line of the tick that comes next.
-#[tactic(auto, unfolding(rk_model::specs::Schedules::tick_text))]
+#[tactic(auto, unfolding(rk_model::specs::Text::Schedules::tick_text))]
 fn push_tick(out: &mut Vec<u8>, parts: &Parts) -> Result<(), NoMemory>
     ensures { OnOk result (out.new.items ≡ out.old.items ++ tick_text parts.now) }
 {
@@ -141,7 +141,7 @@ fn push_tick(out: &mut Vec<u8>, parts: &Parts) -> Result<(), NoMemory>
 }
 
 /// Adds the line of the entry that comes next.
-#[tactic(auto, unfolding(rk_model::specs::Schedules::entry_text))]
+#[tactic(auto, unfolding(rk_model::specs::Text::Schedules::entry_text))]
 fn push_entry(out: &mut Vec<u8>, parts: &Parts, entry: &Entry) -> Result<(), NoMemory>
     ensures { OnOk result (out.new.items ≡ out.old.items ++ entry_text parts.now entry.now entry.now.what) }
 {
@@ -171,7 +171,7 @@ fn push_entries(
 }
 
 /// Adds the last line.
-#[tactic(auto, unfolding(rk_model::specs::Schedules::last_text))]
+#[tactic(auto, unfolding(rk_model::specs::Text::Schedules::last_text))]
 fn push_last(out: &mut Vec<u8>, scenario: &Scenario, ended: bool) -> Result<(), NoMemory>
     ensures { OnOk result (out.new.items ≡ out.old.items ++ last_text scenario.now ended) }
 {

@@ -1,3 +1,3 @@
-pub mod Passing
-pub mod Highest
-pub mod Assigning
+pub mod RegisterPassLemmas
+pub mod HighestBitLemmas
+pub mod AssignmentLemmas

@@ -1,6 +1,6 @@
 -- Clusters: a line, and the thread that each processor has.
 use Rattle.std.specs.Prelude.{ℕ, ◌≡◌, List, [], Option, None, length, replicate}
-use Rattle.rk_model.specs.Lines.{most_urgent, assigned}
+use Rattle.rk_model.specs.Scheduling.ReadyQueues.{most_urgent, assigned}
 use Rattle.rk_line.specs.declared.line.Place.{Place}
 use Rattle.rk_line.specs.Places.{threads, prio_in}
 use Rattle.rk_cluster.specs.declared.moves.Change.{Change}

@@ -1,6 +1,6 @@
 ghost use Rattle.std.specs.Prelude.{◌≡◌, ◌≤◌, length, map, filter, not};
 ghost use Rattle.rk_model.specs.Lists.{has};
-ghost use Rattle.rk_model.specs.Lines.{has_cpu, kept, filled, assigned};
+ghost use Rattle.rk_model.specs.Scheduling.ReadyQueues.{has_cpu, kept, filled, assigned};
 ghost use Rattle.rk_cluster.specs.Clusters.{runners_of};
 
 use rk_line::Line;

@@ -1,6 +1,6 @@
 ghost use Rattle.std.specs.Prelude.{◌≡◌, ◌+◌, ◌-◌, ◌<◌, ◌≤◌, [], None, IfOk, length};
 ghost use Rattle.std.specs.List.{slice_index_or};
-ghost use Rattle.rk_model.specs.Lines.{has_cpu};
+ghost use Rattle.rk_model.specs.Scheduling.ReadyQueues.{has_cpu};
 ghost use Rattle.rk_cluster.specs.Registers.{change_at};
 ghost use Rattle.rk_cluster.specs.Clusters.{empty_cluster, settled};
 

@@ -1,3 +1,3 @@
-pub mod Leasts
-pub mod Splits
-pub mod Finding
+pub mod LeastNameLemmas
+pub mod FreeIndexLemmas
+pub mod FoundNameLemmas

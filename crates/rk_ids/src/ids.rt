@@ -3,7 +3,7 @@ ghost use Rattle.std.specs.List.{position_or_len, range_with_len};
 ghost use Rattle.rk_model.specs.Ids.{id_of, index_in};
 ghost use Rattle.rk_model.specs.Names.{no_names, given_back, least_named, lesser};
 ghost use Rattle.rk_ids.specs.declared.ids.IdError.TheVariants.{InvalidName, TooMany};
-ghost use Rattle.rk_ids.specs.Objects.{objects, lives_at, live_index, optional_id, IsLeastNamed, NoneIsNamed, IsMade, IsSplit};
+ghost use Rattle.rk_ids.specs.LiveObjects.{objects, lives_at, live_index, optional_id, IsLeastNamed, NoneIsNamed, IsMade, IsSplit};
 
 use rk_model::{Bounded, Class, Id, Name, Named, NoMemory};
 use std::alloc::Global;
@@ -29,7 +29,7 @@ pub struct Ids {
 
 impl Model for Ids {
     ghost use Rattle.rk_model.specs.Names.{Names};
-    ghost use Rattle.rk_ids.specs.Objects.{Objects, IsSplit};
+    ghost use Rattle.rk_ids.specs.LiveObjects.{Objects, IsSplit};
 
     ghost Value = { Objects };
 

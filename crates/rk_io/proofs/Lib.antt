@@ -1,2 +1,2 @@
-pub mod Told
-pub mod Inputs
+pub mod ToldLemmas
+pub mod InputLemmas

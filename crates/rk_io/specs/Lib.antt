@@ -1,5 +1,5 @@
 pub mod Causes
 pub mod Bytes
-pub mod Reading
+pub mod WholeInput
 pub mod Memory
 pub mod Standard

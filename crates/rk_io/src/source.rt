@@ -1,7 +1,7 @@
 ghost use Rattle.std.specs.Prelude.{◌≡◌, ◌<◌, ◌≤◌, ℕ, List, Option, length, IfOk, OnErr};
 ghost use Rattle.rk_io.specs.Causes.{HasCause, HasReadCause};
 ghost use Rattle.rk_io.specs.Bytes.{Consumes, ConsumesPrefix, IsAtEnd, moved};
-ghost use Rattle.rk_io.specs.Reading.{HasRead};
+ghost use Rattle.rk_io.specs.WholeInput.{HasRead};
 ghost use Rattle.rk_io.specs.declared.source.ReadError.TheVariants as why;
 
 use std::alloc::{AllocError, Global};

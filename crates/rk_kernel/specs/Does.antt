@@ -5,8 +5,8 @@ use Rattle.rk_model.specs.declared.ids.Class.{Class}
 use Rattle.rk_model.specs.declared.status.Status.{Status}
 use Rattle.rk_model.specs.Ids.{id_of}
 use Rattle.rk_model.specs.State.{Plain}
-use Rattle.rk_model.specs.Objects.{create}
-use Rattle.rk_model.specs.Outcomes.{Outcome, Refused, done, answer_of, changed}
+use Rattle.rk_model.specs.Directives.Objects.{create}
+use Rattle.rk_model.specs.Directives.Outcomes.{Outcome, Refused, done, answer_of, changed}
 use Rattle.rk_parts.specs.declared.core_state.Core.{Core}
 use Rattle.rk_parts.specs.Pieces.{plain_of}
 use Rattle.rk_parts.specs.Pinned.{stored}

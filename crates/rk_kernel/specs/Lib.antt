@@ -2,6 +2,6 @@ pub mod Sound
 pub mod Does
 pub mod Calls
 pub mod Step
-pub mod Laws
+pub mod SchedulingLaws
 pub mod Manned
 pub mod Made

@@ -3,10 +3,10 @@ use Rattle.std.specs.Prelude.{ℕ, ◌+◌, ◌≡◌, List, [], ◌∷◌, leng
 use Rattle.rk_model.specs.declared.entry.View.TheVariants.{Runs}
 use Rattle.rk_model.specs.Lists.{times}
 use Rattle.rk_model.specs.State.{Plain, ClusterState}
-use Rattle.rk_model.specs.Priorities.{urgency}
-use Rattle.rk_model.specs.Lines.{most_urgent}
-use Rattle.rk_model.specs.Running.{running}
-use Rattle.rk_kernel.specs.Laws.{seats}
+use Rattle.rk_model.specs.Scheduling.Priorities.{urgency}
+use Rattle.rk_model.specs.Scheduling.ReadyQueues.{most_urgent}
+use Rattle.rk_model.specs.Scheduling.Running.{running}
+use Rattle.rk_kernel.specs.SchedulingLaws.{seats}
 
 -- the processors of a cluster have the most urgent threads of its line, each on one
 abbrev pub HasRunners : (ℕ → ℕ) → ClusterState → Type 0

@@ -9,14 +9,14 @@ use Rattle.rk_model.specs.declared.state.Armer.TheVariants.{Thread as OfThread}
 use Rattle.rk_model.specs.declared.entry.Reply.{Reply}
 use Rattle.rk_model.specs.declared.state.Wait.{Wait}
 use Rattle.rk_model.specs.Lists.{has, times, nth}
-use Rattle.rk_model.specs.Ops.{kind_at, is_act}
+use Rattle.rk_model.specs.Directives.Lines.{kind_at, is_act}
 use Rattle.rk_model.specs.State.{Plain, ClusterState, no_thread, thread_at, op_at}
-use Rattle.rk_model.specs.Priorities.{is_started, is_eligible}
-use Rattle.rk_model.specs.Lines.{has_cpu}
-use Rattle.rk_model.specs.Running.{cpu_count}
-use Rattle.rk_model.specs.Timers.{times_armed}
+use Rattle.rk_model.specs.Scheduling.Priorities.{is_started, is_eligible}
+use Rattle.rk_model.specs.Scheduling.ReadyQueues.{has_cpu}
+use Rattle.rk_model.specs.Scheduling.Running.{cpu_count}
+use Rattle.rk_model.specs.Scheduling.Timers.{times_armed}
 use Rattle.rk_model.specs.Limits.{AreRunnable}
-use Rattle.rk_parts.specs.Named.{AreNamed}
+use Rattle.rk_parts.specs.NamesAgree.{AreNamed}
 
 -- whether a thread is eligible and of this home
 unfoldable pub stands : Plain → ℕ → ℕ → Bool

@@ -2,7 +2,7 @@
 use Rattle.std.specs.Prelude.{ℕ, ◌≡◌, Some, None}
 use Rattle.rk_model.specs.declared.entry.What.TheVariants.{Tick, End}
 use Rattle.rk_model.specs.State.{Plain}
-use Rattle.rk_model.specs.Running.{running, caller, least, why_of}
+use Rattle.rk_model.specs.Scheduling.Running.{running, caller, least, why_of}
 use Rattle.rk_model.specs.Steps.{act, clock_entry}
 use Rattle.rk_kernel.specs.declared.steps.CoreStep.{CoreStep}
 use Rattle.rk_kernel.specs.declared.steps.CoreStep.TheVariants.{Did, Nothing}

@@ -2,9 +2,9 @@
 
 ghost use Rattle.std.specs.Prelude.{◌≡◌, ◌<◌, ◌≤◌, ◌+◌, ℕ, length};
 ghost use Rattle.rk_model.specs.State.{thread_at};
-ghost use Rattle.rk_model.specs.Running.{cpu_count};
-ghost use Rattle.rk_model.specs.Outcomes.{reply_at_timer};
-ghost use Rattle.rk_model.specs.Ticks.{charged, charge_from, pass, rung, fire_cluster, fire_all, tick};
+ghost use Rattle.rk_model.specs.Scheduling.Running.{cpu_count};
+ghost use Rattle.rk_model.specs.Directives.Outcomes.{reply_at_timer};
+ghost use Rattle.rk_model.specs.Scheduling.Ticks.{charged, charge_from, pass, rung, fire_cluster, fire_all, tick};
 ghost use Rattle.rk_model.specs.Limits.{AreRunnable};
 ghost use Rattle.rk_parts.specs.Firing.{due_now, FiresFirst};
 ghost use Rattle.rk_parts.specs.Pieces.{plain_of};

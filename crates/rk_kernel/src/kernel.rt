@@ -1,11 +1,11 @@
 ghost use Rattle.std.specs.Prelude.{◌≡◌, ◌<◌, ◌≤◌, ◌+◌, ℕ, [], length, IfOk, IfSome, IsSome, Some, false};
 ghost use Rattle.rk_model.specs.State.{Plain};
-ghost use Rattle.rk_model.specs.Running.{cpu_count, running, caller, least};
+ghost use Rattle.rk_model.specs.Scheduling.Running.{cpu_count, running, caller, least};
 ghost use Rattle.rk_model.specs.Steps.{act, clock_entry};
 ghost use Rattle.rk_model.specs.Histories.{opening, turn, lowest, lowest_from, next_of, is_end};
-ghost use Rattle.rk_model.specs.Scenarios.{IsScenario};
+ghost use Rattle.rk_model.specs.Text.Scenarios.{IsScenario};
 ghost use Rattle.rk_kernel.specs.Step.{IsStep, IsTick};
-ghost use Rattle.rk_kernel.specs.Laws.{RefusesAlone};
+ghost use Rattle.rk_kernel.specs.SchedulingLaws.{RefusesAlone};
 
 use crate::clock::tick_core;
 use crate::opening::make_opening;

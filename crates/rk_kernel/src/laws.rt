@@ -3,7 +3,7 @@
 //! Each speaks of the state after any legal history of a scenario, but for the last, which speaks of the
 //! history in which the least processor that has a directive always acts.
 
-ghost use Rattle.rk_kernel.specs.Laws.{LinesHoldTheirOwn, ProcessorsHaveTheRunners, RunnersAreTheMostUrgent, NoneRunsTwice, NamesAndObjectsAgree, NothingIsLeftOfDeletedTasks, NoneActsAtWork, RefusalsChangeTheCallerAlone, LowestGoesOn};
+ghost use Rattle.rk_kernel.specs.SchedulingLaws.{LinesHoldTheirOwn, ProcessorsHaveTheRunners, RunnersAreTheMostUrgent, NoneRunsTwice, NamesAndObjectsAgree, NothingIsLeftOfDeletedTasks, NoneActsAtWork, RefusalsChangeTheCallerAlone, LowestGoesOn};
 
 /// The line of each cluster holds exactly the eligible threads of that home, each once.
 pub fn lines_hold_their_own()

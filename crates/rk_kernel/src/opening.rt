@@ -1,11 +1,11 @@
 ghost use Rattle.std.specs.Prelude.{◌≡◌, ◌<◌, ◌≤◌, ◌+◌, ℕ, length, [], IfOk, map, replicate};
 ghost use Rattle.std.specs.List.{AllByRecursion};
-ghost use Rattle.rk_model.specs.Priorities.{no_standing};
+ghost use Rattle.rk_model.specs.Scheduling.Priorities.{no_standing};
 ghost use Rattle.rk_model.specs.declared.scenario.Init.{Init as InitLine};
 ghost use Rattle.rk_model.specs.Names.{no_objects};
 ghost use Rattle.rk_model.specs.Histories.{begun, places, free_cluster, vacant, begun_names, opening};
 ghost use Rattle.rk_model.specs.Limits.{AreRunnable, IsWithinLimits};
-ghost use Rattle.rk_model.specs.Scenarios.{cpus_in};
+ghost use Rattle.rk_model.specs.Text.Scenarios.{cpus_in};
 ghost use Rattle.rk_parts.specs.Pieces.{cluster_of, clusters_of, plain_of};
 ghost use Rattle.rk_parts.specs.Pinned.{linings, IsNoted};
 ghost use Rattle.rk_cluster.specs.Clusters.{empty_cluster};

@@ -2,9 +2,9 @@
 
 ghost use Rattle.std.specs.Prelude.{◌≡◌, ◌<◌, Some};
 ghost use Rattle.std.specs.Option.{option_to_list};
-ghost use Rattle.rk_model.specs.Running.{caller};
-ghost use Rattle.rk_model.specs.Settling.{settle};
-ghost use Rattle.rk_model.specs.Outcomes.{answer_of, after_outcome, last_of};
+ghost use Rattle.rk_model.specs.Scheduling.Running.{caller};
+ghost use Rattle.rk_model.specs.Scheduling.Settling.{settle};
+ghost use Rattle.rk_model.specs.Directives.Outcomes.{answer_of, after_outcome, last_of};
 ghost use Rattle.rk_model.specs.Steps.{action, entry_of};
 ghost use Rattle.rk_parts.specs.Pieces.{plain_of};
 ghost use Rattle.rk_parts.specs.Pinned.{IsNoted};

@@ -1,3 +1,3 @@
-pub mod Sorting
-pub mod Lines
-pub mod Ranks
+pub mod SortedLineLemmas
+pub mod LineLemmas
+pub mod RankLemmas

@@ -1,7 +1,7 @@
 ghost use Rattle.std.specs.Prelude.{◌≡◌, [], ◌∷◌, ◌++◌, ◌+◌, ◌<◌, ◌≤◌, ◌==◌, IfOk, IfSome, IfNone, true, false, nat_le, length, take, drop, count_by};
 ghost use Rattle.std.specs.List.{position_or_len, slice_index_or};
 ghost use Rattle.rk_model.specs.Lists.{has};
-ghost use Rattle.rk_model.specs.Lines.{nth_urgent};
+ghost use Rattle.rk_model.specs.Scheduling.ReadyQueues.{nth_urgent};
 ghost use Rattle.rk_line.specs.Places.{threads, prio_in, without, with_prio, prio_at, more_urgent};
 
 use rk_model::{Bounded, NoMemory, Prio, ThreadIx};

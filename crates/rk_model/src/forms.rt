@@ -1,5 +1,5 @@
 ghost use Rattle.std.specs.Prelude.{◌≡◌};
-ghost use Rattle.rk_model.specs.Forms.{word_of, form_from, form_in};
+ghost use Rattle.rk_model.specs.Text.Forms.{word_of, form_from, form_in};
 
 use crate::numbers::Name;
 use crate::scenario::{Op, Target};

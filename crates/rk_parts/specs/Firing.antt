@@ -2,8 +2,8 @@
 use Rattle.std.specs.Prelude.{ℕ, ◌≡◌, List, [], ◌∷◌, Bool, true, false, Option, Some, None}
 use Rattle.rk_model.specs.declared.state.Armed.{Armed}
 use Rattle.rk_model.specs.State.{Plain, cluster_at}
-use Rattle.rk_model.specs.Timers.{due_at}
-use Rattle.rk_model.specs.Ticks.{fire}
+use Rattle.rk_model.specs.Scheduling.Timers.{due_at}
+use Rattle.rk_model.specs.Scheduling.Ticks.{fire}
 
 abbrev pub head_of : List Armed → Option Armed
 head_of [] = None

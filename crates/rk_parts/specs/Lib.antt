@@ -1,7 +1,7 @@
 pub mod Threads
 pub mod Pieces
-pub mod Registers
+pub mod ClusterRegisters
 pub mod Pinned
 pub mod Settled
-pub mod Named
+pub mod NamesAgree
 pub mod Firing

@@ -4,14 +4,14 @@ use Rattle.rk_model.specs.declared.settling.Standing.{Standing}
 use Rattle.rk_model.specs.declared.state.Armed.{Armed}
 use Rattle.rk_model.specs.Lists.{has}
 use Rattle.rk_model.specs.State.{ClusterState}
-use Rattle.rk_model.specs.Priorities.{standings, nth_standing}
-use Rattle.rk_model.specs.Settling.{belongs}
+use Rattle.rk_model.specs.Scheduling.Priorities.{standings, nth_standing}
+use Rattle.rk_model.specs.Scheduling.Settling.{belongs}
 use Rattle.rk_line.specs.declared.line.Place.{Place}
 use Rattle.rk_cluster.specs.Clusters.{Cluster, settled}
 use Rattle.rk_parts.specs.declared.core_state.ClusterPart.{ClusterPart}
 use Rattle.rk_parts.specs.declared.core_state.Core.{Core}
 use Rattle.rk_parts.specs.Pieces.{clusters_of, plain_of}
-use Rattle.rk_parts.specs.Registers.{register}
+use Rattle.rk_parts.specs.ClusterRegisters.{register}
 
 -- the clusters of the parts, as they are stored
 abbrev pub linings : List ClusterPart → List Cluster

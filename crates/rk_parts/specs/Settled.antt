@@ -2,8 +2,8 @@
 use Rattle.std.specs.Prelude.{ℕ, ◌+◌, List, [], ◌∷◌, length}
 use Rattle.rk_model.specs.declared.settling.Move.{Move}
 use Rattle.rk_model.specs.State.{ClusterState}
-use Rattle.rk_model.specs.Lines.{assigned, most_urgent}
-use Rattle.rk_model.specs.Settling.{moved}
+use Rattle.rk_model.specs.Scheduling.ReadyQueues.{assigned, most_urgent}
+use Rattle.rk_model.specs.Scheduling.Settling.{moved}
 
 -- a cluster with another line, and its processors assigned by it
 abbrev pub lined_up : (ℕ → ℕ) → List ℕ → ClusterState → ClusterState

@@ -4,7 +4,7 @@ use Rattle.rk_model.specs.declared.settling.Standing.{Standing}
 use Rattle.rk_model.specs.declared.state.Thread.{Thread}
 use Rattle.rk_model.specs.Lists.{has, nth, times}
 use Rattle.rk_model.specs.State.{no_thread}
-use Rattle.rk_model.specs.Priorities.{is_started, is_no_wait, no_standing, nth_standing}
+use Rattle.rk_model.specs.Scheduling.Priorities.{is_started, is_no_wait, no_standing, nth_standing}
 
 -- what is at the places of the threads, and how each stood when the state settled last
 pub record Threads : Type 0 where

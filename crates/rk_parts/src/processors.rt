@@ -2,7 +2,7 @@
 
 ghost use Rattle.std.specs.Prelude.{◌≡◌, ◌<◌, ◌≤◌, None, length, IfSome, IsSome};
 ghost use Rattle.std.specs.List.{slice_index_or};
-ghost use Rattle.rk_model.specs.Running.{all_cpus, cpu_count, running, caller, least, why_of};
+ghost use Rattle.rk_model.specs.Scheduling.Running.{all_cpus, cpu_count, running, caller, least, why_of};
 ghost use Rattle.rk_parts.specs.Pieces.{plain_of, clusters_of};
 
 use crate::core_state::{ClusterPart, Core};
@@ -80,7 +80,7 @@ pub fn why_not(core: &Core, cpu: usize) -> Why
 }
 
 /// The least processor that has a directive.
-#[tactic(auto, using(crate::proofs::Scans::least_more))]
+#[tactic(auto, using(crate::proofs::LeastProcessorLemmas::least_more))]
 pub fn least_of(core: &Core) -> Option<u8>
     requires { cpu_count (plain_of core.now) ≤ 8 }
     ensures least { result ≡ least (plain_of core.now) }

@@ -3,12 +3,12 @@
 ghost use Rattle.std.specs.Prelude.{◌≡◌, ◌≤◌, map, length};
 ghost use Rattle.std.specs.Option.{option_to_list};
 ghost use Rattle.rk_model.specs.Lists.{has};
-ghost use Rattle.rk_model.specs.Settling.{is_cluster, move_of, settle_by};
+ghost use Rattle.rk_model.specs.Scheduling.Settling.{is_cluster, move_of, settle_by};
 ghost use Rattle.rk_cluster.specs.Clusters.{settled};
 ghost use Rattle.rk_cluster.specs.Registers.{change_at};
 ghost use Rattle.rk_parts.specs.Threads.{own_standing};
 ghost use Rattle.rk_parts.specs.Pieces.{plain_of};
-ghost use Rattle.rk_parts.specs.Registers.{change_by, register};
+ghost use Rattle.rk_parts.specs.ClusterRegisters.{change_by, register};
 ghost use Rattle.rk_parts.specs.Pinned.{linings, timers_in, relined, CanSettle, IsNoted};
 
 use crate::core_state::{ClusterPart, Core};
@@ -28,7 +28,7 @@ fn is_number(cluster: u8, number: Option<u8>) -> bool
 }
 
 /// What settling asks in a cluster of a thread that stood and stands like this.
-#[tactic(auto, unfolding(rk_model::specs::Settling::move_of))]
+#[tactic(auto, unfolding(rk_model::specs::Scheduling::Settling::move_of))]
 fn compare(cluster: u8, before: &Standing, now: &Standing, last: bool) -> Move
     ensures { result ≡ move_of cluster before.now now.now last }
 {
@@ -70,7 +70,7 @@ fn goes_last(last: &Option<ThreadIx>, thread: ThreadIx) -> bool
 }
 
 /// The change of a thread in the register of a cluster.
-#[tactic(auto, using(crate::proofs::Standings::standing_of), unfolding(rk_model::specs::Settling::moves))]
+#[tactic(auto, using(crate::proofs::StandingLemmas::standing_of), unfolding(rk_model::specs::Scheduling::Settling::moves))]
 fn change_of(
     threads: &Threads,
     last: &Option<ThreadIx>,

@@ -1,5 +1,5 @@
 ghost use Rattle.std.specs.Prelude.{◌≡◌};
-ghost use Rattle.rk_model.specs.Priorities.{spins as spins_of, prio, home_prio, no_standing};
+ghost use Rattle.rk_model.specs.Scheduling.Priorities.{spins as spins_of, prio, home_prio, no_standing};
 ghost use Rattle.rk_parts.specs.Pieces.{plain_of};
 ghost use Rattle.rk_parts.specs.Threads.{is_ready, own_standing};
 
@@ -48,7 +48,7 @@ pub fn spins(core: &Core, thread: ThreadIx) -> bool
 }
 
 /// The priority of the thread in a cluster, if it has one there.
-#[tactic(auto, unfolding(rk_model::specs::Priorities::prio))]
+#[tactic(auto, unfolding(rk_model::specs::Scheduling::Priorities::prio))]
 fn prio_of(core: &Core, thread: ThreadIx, cluster: u8) -> Option<Prio>
     ensures { result ≡ prio (plain_of core.now) thread cluster }
 {
@@ -61,7 +61,7 @@ fn prio_of(core: &Core, thread: ThreadIx, cluster: u8) -> Option<Prio>
 }
 
 /// The priority of the thread in its home; the least urgent one where it has none.
-#[tactic(auto, unfolding(rk_model::specs::Priorities::home_prio))]
+#[tactic(auto, unfolding(rk_model::specs::Scheduling::Priorities::home_prio))]
 pub fn prio_at_home(core: &Core, thread: ThreadIx) -> Prio
     ensures { result ≡ home_prio (plain_of core.now) thread }
 {

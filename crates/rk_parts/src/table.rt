@@ -2,8 +2,8 @@
 
 ghost use Rattle.std.specs.Prelude.{◌≡◌, ◌≤◌, IfOk, IfSome, true};
 ghost use Rattle.rk_model.specs.Names.{no_objects, names_of, with_names, lives, given_back, least_named};
-ghost use Rattle.rk_ids.specs.Objects.{IsSplit, objects};
-ghost use Rattle.rk_parts.specs.Named.{Takes, TakesIn};
+ghost use Rattle.rk_ids.specs.LiveObjects.{IsSplit, objects};
+ghost use Rattle.rk_parts.specs.NamesAgree.{Takes, TakesIn};
 
 use rk_ids::Ids;
 use rk_model::{Class, Name, NoMemory};

@@ -5,7 +5,7 @@
 ghost use Rattle.std.specs.Prelude.{◌≡◌, ◌≤◌, ◌||◌, ◌==◌, ℕ, length, false, map, IfOk};
 ghost use Rattle.rk_model.specs.Lists.{has, nth, with_nth};
 ghost use Rattle.rk_model.specs.State.{no_thread};
-ghost use Rattle.rk_model.specs.Priorities.{nth_standing};
+ghost use Rattle.rk_model.specs.Scheduling.Priorities.{nth_standing};
 ghost use Rattle.rk_parts.specs.Threads.{no_threads, own_standing, AreApart, StandAsNoted};
 
 use crate::standing::{not_standing, own};
@@ -58,7 +58,7 @@ fn standing_in(stood: &[Standing], thread: ThreadIx) -> Standing
 }
 
 /// Whether a thread is marked.
-#[tactic(auto, using(crate::proofs::Tests::any_has))]
+#[tactic(auto, using(crate::proofs::BooleanLemmas::any_has))]
 fn is_marked(marked: &[ThreadIx], thread: ThreadIx) -> bool
     ensures { result ≡ has marked.now thread }
 {

@@ -1,6 +1,6 @@
 ghost use Rattle.std.specs.Prelude.{◌≡◌, ◌<◌, ◌≤◌, ◌+◌, ◌-◌, ◌++◌, ◌∷◌, [], ℕ, length};
 ghost use Rattle.rk_model.specs.State.{cluster_at};
-ghost use Rattle.rk_model.specs.Timers.{arm, cancel, due_at, without_due, take_due, is_same as same, without_timer};
+ghost use Rattle.rk_model.specs.Scheduling.Timers.{arm, cancel, due_at, without_due, take_due, is_same as same, without_timer};
 ghost use Rattle.rk_parts.specs.Pieces.{plain_of};
 ghost use Rattle.rk_parts.specs.Firing.{head_of};
 ghost use Rattle.rk_parts.specs.Pinned.{stored};

@@ -1,8 +1,8 @@
 -- What has been read so far, as the code has it, and what taking a line does to it.
 use Rattle.std.specs.Prelude.{ℕ, ◌≡◌, ◌≤◌, Result, Ok, Err, length}
 use Rattle.rk_model.specs.declared.scenario.ScenarioWhy.{ScenarioWhy}
-use Rattle.rk_model.specs.Scenarios.{cpus_in}
-use Rattle.rk_model.specs.Reading as reading
+use Rattle.rk_model.specs.Text.Scenarios.{cpus_in}
+use Rattle.rk_model.specs.Text.Reading as reading
 use Rattle.rk_scenario.specs.declared.errors.LineError.{LineError}
 use Rattle.rk_scenario.specs.declared.errors.LineError.TheVariants as errors
 use Rattle.rk_scenario.specs.declared.draft.Draft.{Draft}

@@ -1,3 +1,3 @@
-pub mod Laws
+pub mod TextLaws
 pub mod Drafts
-pub mod Outcomes
+pub mod ReadingAnswers

@@ -1,6 +1,6 @@
 ghost use Rattle.std.specs.Prelude.{◌≡◌, ◌≤◌, ◌<◌, ◌+◌, ◌&&◌, nat_lt, nat_le, length, OnOk, IfOk, codes, Ok, Err};
-ghost use Rattle.rk_model.specs.Scenarios.{cpus_in};
-ghost use Rattle.rk_model.specs.Reading as reading;
+ghost use Rattle.rk_model.specs.Text.Scenarios.{cpus_in};
+ghost use Rattle.rk_model.specs.Text.Reading as reading;
 ghost use Rattle.rk_scenario.specs.Drafts.{draft_of, phase_of, Takes, HasAtMost, most_bodies, IsSmall};
 
 use crate::errors::LineError;
@@ -52,7 +52,7 @@ fn no_body(alloc: Global) -> Body
 }
 
 /// Whether the words are `rtems 1`.
-#[tactic(auto, unfolding(rk_model::specs::Reading::is_header))]
+#[tactic(auto, unfolding(rk_model::specs::Text::Reading::is_header))]
 fn is_header(words: &[Word]) -> bool
     ensures { result ≡ reading.is_header words.now }
 {
@@ -65,7 +65,7 @@ fn is_header(words: &[Word]) -> bool
 }
 
 /// Whether the words are `end`.
-#[tactic(auto, unfolding(rk_model::specs::Reading::is_end))]
+#[tactic(auto, unfolding(rk_model::specs::Text::Reading::is_end))]
 fn is_end(words: &[Word]) -> bool
     ensures { result ≡ reading.is_end words.now }
 {
@@ -98,7 +98,7 @@ fn has_room(clusters: &[u8], count: u8) -> bool
 }
 
 /// What the words behind `init` stand for.
-#[tactic(auto, unfolding(rk_model::specs::Reading::init_operands))]
+#[tactic(auto, unfolding(rk_model::specs::Text::Reading::init_operands))]
 fn read_init(scenario: &Scenario, operands: &[Word]) -> Result<Init, ScenarioWhy>
     requires clusters { length scenario.now.clusters ≤ 4 }
     requires bodies { length scenario.now.bodies ≤ 32 }
@@ -155,7 +155,7 @@ impl Draft {
     }
 
     /// Takes `cluster M`, by the words behind the first.
-    #[tactic(auto, unfolding(rk_model::specs::Reading::cluster_line), using(crate::proofs::Numbers::few_with, crate::proofs::Numbers::few_cpus_with))]
+    #[tactic(auto, unfolding(rk_model::specs::Text::Reading::cluster_line), using(crate::proofs::NumberLemmas::few_with, crate::proofs::NumberLemmas::few_cpus_with))]
     fn take_cluster(&mut self, operands: &[Word]) -> Result<(), LineError>
         requires { HasAtMost 32 self.old }
         ensures next { Takes result (reading.cluster_line (draft_of self.old) operands.now) self.new }
@@ -177,7 +177,7 @@ impl Draft {
     }
 
     /// Takes `ticks N`, by the words behind the first.
-    #[tactic(auto, unfolding(rk_model::specs::Reading::ticks_line))]
+    #[tactic(auto, unfolding(rk_model::specs::Text::Reading::ticks_line))]
     fn take_ticks(&mut self, operands: &[Word]) -> Result<(), LineError>
         requires { HasAtMost 32 self.old }
         ensures next { Takes result (reading.ticks_line (draft_of self.old) operands.now) self.new }
@@ -195,7 +195,7 @@ impl Draft {
     }
 
     /// Takes `limit N`, by the words behind the first.
-    #[tactic(auto, unfolding(rk_model::specs::Reading::limit_line))]
+    #[tactic(auto, unfolding(rk_model::specs::Text::Reading::limit_line))]
     fn take_limit(&mut self, operands: &[Word]) -> Result<(), LineError>
         requires { HasAtMost 32 self.old }
         ensures next { Takes result (reading.limit_line (draft_of self.old) operands.now) self.new }
@@ -213,7 +213,7 @@ impl Draft {
     }
 
     /// Takes `body B`, by the words behind the first.
-    #[tactic(auto, unfolding(rk_model::specs::Reading::body_line))]
+    #[tactic(auto, unfolding(rk_model::specs::Text::Reading::body_line))]
     fn take_body(&mut self, alloc: Global, operands: &[Word]) -> Result<(), LineError>
         requires { HasAtMost 32 self.old }
         ensures next { Takes result (reading.body_line (draft_of self.old) operands.now) self.new }
@@ -254,7 +254,7 @@ impl Draft {
     }
 
     /// Takes a line of the open body that isn't its `end`.
-    #[tactic(auto, unfolding(rk_model::specs::Reading::inner_line))]
+    #[tactic(auto, unfolding(rk_model::specs::Text::Reading::inner_line))]
     fn take_inner(&mut self, words: &[Word]) -> Result<(), LineError>
         requires small { IsSmall self.old }
         requires most { HasAtMost 31 self.old }
@@ -271,7 +271,7 @@ impl Draft {
     }
 
     /// Takes `init NAME CLUSTER PRIORITY B`, by the words behind the first.
-    #[tactic(auto, unfolding(rk_model::specs::Reading::init_line))]
+    #[tactic(auto, unfolding(rk_model::specs::Text::Reading::init_line))]
     fn take_init(&mut self, operands: &[Word]) -> Result<(), LineError>
         requires { HasAtMost 32 self.old }
         ensures next { Takes result (reading.init_line (draft_of self.old) operands.now) self.new }
@@ -372,7 +372,7 @@ impl Draft {
     }
 
     /// Takes a line of these words. After an `Err` the draft is of no more use.
-    #[tactic(auto, unfolding(rk_model::specs::Reading::after_words))]
+    #[tactic(auto, unfolding(rk_model::specs::Text::Reading::after_words))]
     pub(crate) fn take_words(&mut self, alloc: Global, words: &[Word]) -> Result<(), LineError>
         requires { IsSmall self.old }
         ensures next { Takes result (reading.after_words (draft_of self.old) words.now) self.new }

@@ -1,6 +1,6 @@
 //! Laws of the texts of scenarios. The contract of each function is a law; calling it does nothing.
 
-ghost use Rattle.rk_scenario.specs.Laws.{ReadsTexts, ReadsEachText, OneScenario, FaultlessAreTexts, FaultsAtFirstStop, FaultsHaveTheirReasons};
+ghost use Rattle.rk_scenario.specs.TextLaws.{ReadsTexts, ReadsEachText, OneScenario, FaultlessAreTexts, FaultsAtFirstStop, FaultsHaveTheirReasons};
 
 /// What the machine of the definitions reads from bytes is a scenario of which they are a text.
 pub fn machine_reads_texts()

@@ -1,5 +1,5 @@
 ghost use Rattle.std.specs.Prelude.{◌≡◌, ◌<◌, ◌+◌, [], ◌∷◌, length, take, drop, IfSome, MatchOption};
-ghost use Rattle.rk_model.specs.Words.{lines_of, lines_from, last_line};
+ghost use Rattle.rk_model.specs.Text.Words.{lines_of, lines_from, last_line};
 
 /// The first line of a text, and the text behind it; `None` where there is no line.
 pub(crate) fn split_line(text: &[u8]) -> Option<(&[u8], &[u8])>

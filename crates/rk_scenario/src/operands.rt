@@ -1,9 +1,9 @@
 ghost use Rattle.std.specs.Prelude.{◌≡◌, ◌<◌, ◌≤◌, ◌+◌, ◌*◌, ◌^◌, length, min, slice_get, IfSome, IfOk};
 ghost use Rattle.std.specs.Option.{option_map};
 ghost use Rattle.std.specs.List.{list_all};
-ghost use Rattle.rk_model.specs.Words.{digit_value, digit_below, value_from, decimal_of, number_of, name_of, var_of, is_name_byte, is_lower, is_body_byte, is_body_name};
-ghost use Rattle.rk_model.specs.Scenarios.{body_of, body_known, body_from, is_named, may_be_target, is_target};
-ghost use Rattle.rk_model.specs.Reading.{known_at, number_operand, cluster_operand, var_operand, fixed_operand, id_operand, goto_operand, name_operand, name0_operand, body_operand, start_operand};
+ghost use Rattle.rk_model.specs.Text.Words.{digit_value, digit_below, value_from, decimal_of, number_of, name_of, var_of, is_name_byte, is_lower, is_body_byte, is_body_name};
+ghost use Rattle.rk_model.specs.Text.Scenarios.{body_of, body_known, body_from, is_named, may_be_target, is_target};
+ghost use Rattle.rk_model.specs.Text.Reading.{known_at, number_operand, cluster_operand, var_operand, fixed_operand, id_operand, goto_operand, name_operand, name0_operand, body_operand, start_operand};
 
 use rk_model::{Body, Name, Op, Scenario, ScenarioWhy, Target};
 
@@ -12,7 +12,7 @@ use rk_model::{Body, Name, Op, Scenario, ScenarioWhy, Target};
 const BEYOND: u64 = 4_294_967_296;
 
 /// The number that a word spells, or `BEYOND` where it is greater.
-#[tactic(auto, unfolding(rk_model::specs::Words::number_of))]
+#[tactic(auto, unfolding(rk_model::specs::Text::Words::number_of))]
 fn number(word: &[u8]) -> Option<u64>
     ensures { result ≡ option_map (min 4294967296) (number_of word.now) }
 {
@@ -23,7 +23,7 @@ fn number(word: &[u8]) -> Option<u64>
 }
 
 /// The number that a word spells in decimal digits, or `BEYOND` where it is greater.
-#[tactic(auto, unfolding(rk_model::specs::Words::decimal_of))]
+#[tactic(auto, unfolding(rk_model::specs::Text::Words::decimal_of))]
 fn decimal(word: &[u8]) -> Option<u64>
     ensures { result ≡ option_map (min 4294967296) (decimal_of word.now) }
 {
@@ -64,7 +64,7 @@ fn digit(base: u64, byte: u8) -> Option<u64>
 }
 
 /// The number that a word spells, where it is from `least` to `most`.
-#[tactic(auto, unfolding(rk_model::specs::Reading::number_operand))]
+#[tactic(auto, unfolding(rk_model::specs::Text::Reading::number_operand))]
 pub(crate) fn number_operand(least: u32, most: u32, word: &[u8]) -> Result<u32, ScenarioWhy>
     ensures value { result ≡ number_operand least most word.now }
     ensures low { IfOk result (λ n. least ≤ n) }
@@ -86,7 +86,7 @@ pub(crate) fn any_operand(word: &[u8]) -> Result<u32, ScenarioWhy>
 }
 
 /// The number of a cluster, of which there are `count`.
-#[tactic(auto, unfolding(rk_model::specs::Reading::cluster_operand))]
+#[tactic(auto, unfolding(rk_model::specs::Text::Reading::cluster_operand))]
 pub(crate) fn cluster_operand(count: usize, word: &[u8]) -> Result<u8, ScenarioWhy>
     requires { count ≤ 256 }
     ensures { result ≡ cluster_operand count word.now }
@@ -98,7 +98,7 @@ pub(crate) fn cluster_operand(count: usize, word: &[u8]) -> Result<u8, ScenarioW
 }
 
 /// The number of the variable that a word spells: `v0` to `v7`.
-#[tactic(auto, unfolding(rk_model::specs::Words::var_of))]
+#[tactic(auto, unfolding(rk_model::specs::Text::Words::var_of))]
 fn variable(word: &[u8]) -> Option<u8>
     ensures { result ≡ var_of word.now }
 {
@@ -109,7 +109,7 @@ fn variable(word: &[u8]) -> Option<u8>
 }
 
 /// The number of the variable that a word spells.
-#[tactic(auto, unfolding(rk_model::specs::Reading::var_operand))]
+#[tactic(auto, unfolding(rk_model::specs::Text::Reading::var_operand))]
 pub(crate) fn var_operand(word: &[u8]) -> Result<u8, ScenarioWhy>
     ensures { result ≡ var_operand word.now }
 {
@@ -120,7 +120,7 @@ pub(crate) fn var_operand(word: &[u8]) -> Result<u8, ScenarioWhy>
 }
 
 /// An ID: a variable, `self`, or a number of 32 bits.
-#[tactic(auto, unfolding(rk_model::specs::Reading::id_operand))]
+#[tactic(auto, unfolding(rk_model::specs::Text::Reading::id_operand))]
 pub(crate) fn id_operand(word: &[u8]) -> Result<Target, ScenarioWhy>
     ensures { result ≡ id_operand word.now }
 {
@@ -131,7 +131,7 @@ pub(crate) fn id_operand(word: &[u8]) -> Result<Target, ScenarioWhy>
 }
 
 /// An ID that is no variable: `self`, or a number of 32 bits.
-#[tactic(auto, unfolding(rk_model::specs::Reading::fixed_operand))]
+#[tactic(auto, unfolding(rk_model::specs::Text::Reading::fixed_operand))]
 fn fixed_operand(word: &[u8]) -> Result<Target, ScenarioWhy>
     ensures { result ≡ fixed_operand word.now }
 {
@@ -173,7 +173,7 @@ fn is_target(earlier: &[Op], number: u64) -> bool
 }
 
 /// The number that a word spells of one of these earlier lines that isn't a goto.
-#[tactic(auto, unfolding(rk_model::specs::Reading::goto_operand))]
+#[tactic(auto, unfolding(rk_model::specs::Text::Reading::goto_operand))]
 pub(crate) fn goto_operand(earlier: &[Op], word: &[u8]) -> Result<u32, ScenarioWhy>
     requires { length earlier.now ≤ 1000 }
     ensures { result ≡ goto_operand earlier.now word.now }
@@ -192,7 +192,7 @@ fn is_name_byte(byte: u8) -> bool
 }
 
 /// The name of an object that a word spells.
-#[tactic(auto, unfolding(rk_model::specs::Words::name_of, rk_model::specs::Reading::name_operand))]
+#[tactic(auto, unfolding(rk_model::specs::Text::Words::name_of, rk_model::specs::Text::Reading::name_operand))]
 pub(crate) fn name_operand(word: &[u8]) -> Result<Name, ScenarioWhy>
     ensures { result ≡ name_operand word.now }
 {
@@ -209,7 +209,7 @@ pub(crate) fn name_operand(word: &[u8]) -> Result<Name, ScenarioWhy>
 }
 
 /// The name of an object that a word spells, where `-` is the name 0.
-#[tactic(auto, unfolding(rk_model::specs::Words::name0_of, rk_model::specs::Reading::name0_operand, rk_model::specs::Reading::name_operand))]
+#[tactic(auto, unfolding(rk_model::specs::Text::Words::name0_of, rk_model::specs::Text::Reading::name0_operand, rk_model::specs::Text::Reading::name_operand))]
 pub(crate) fn name0_operand(word: &[u8]) -> Result<Name, ScenarioWhy>
     ensures { result ≡ name0_operand word.now }
 {
@@ -242,7 +242,7 @@ fn are_body_bytes(bytes: &[u8]) -> bool
 }
 
 /// Whether a word may be a body's name.
-#[tactic(auto, unfolding(rk_model::specs::Words::is_body_name))]
+#[tactic(auto, unfolding(rk_model::specs::Text::Words::is_body_name))]
 pub(crate) fn is_body_name(word: &[u8]) -> bool
     ensures { result ≡ is_body_name word.now }
 {
@@ -266,7 +266,7 @@ pub(crate) fn body_number(bodies: &[Body], name: &[u8]) -> Option<usize>
 }
 
 /// The number of the body whose name a word is.
-#[tactic(auto, unfolding(rk_model::specs::Reading::body_operand))]
+#[tactic(auto, unfolding(rk_model::specs::Text::Reading::body_operand))]
 pub(crate) fn body_operand(bodies: &[Body], word: &[u8]) -> Result<u8, ScenarioWhy>
     requires { length bodies.now ≤ 256 }
     ensures { result ≡ body_operand bodies.now word.now }
@@ -291,7 +291,7 @@ fn known_body(front: &[Body], own: &[u8], name: &[u8]) -> Option<usize>
 
 /// The number of the body whose name a word is, of those that a line of the open body may name: the
 /// ones in front of it, and itself.
-#[tactic(auto, unfolding(rk_model::specs::Reading::start_operand))]
+#[tactic(auto, unfolding(rk_model::specs::Text::Reading::start_operand))]
 pub(crate) fn start_operand(
     scenario: &Scenario,
     body: &Body,

@@ -1,6 +1,6 @@
 ghost use Rattle.std.specs.Prelude.{◌≡◌, ◌≤◌, ◌∷◌, [], length};
-ghost use Rattle.rk_model.specs.Forms.{form_of};
-ghost use Rattle.rk_model.specs.Reading.{known_at, op_line, line_like, form_line};
+ghost use Rattle.rk_model.specs.Text.Forms.{form_of};
+ghost use Rattle.rk_model.specs.Text.Reading.{known_at, op_line, line_like, form_line};
 
 use crate::operands::{
     any_operand, goto_operand, id_operand, name_operand, name0_operand, number_operand,
@@ -11,7 +11,7 @@ use rk_model::{Body, Op, Scenario, ScenarioWhy};
 
 /// What a line of an open body stands for behind the lines that this has so far, by its words.
 /// `scenario` is what has been read of the scenario, with the bodies in front of the open one.
-#[tactic(auto, unfolding(rk_model::specs::Reading::op_line))]
+#[tactic(auto, unfolding(rk_model::specs::Text::Reading::op_line))]
 pub(crate) fn read_op(scenario: &Scenario, body: &Body, words: &[Word]) -> Result<Op, ScenarioWhy>
     requires bodies { length scenario.now.bodies ≤ 255 }
     requires lines { length body.now.lines ≤ 1000 }
@@ -27,7 +27,7 @@ pub(crate) fn read_op(scenario: &Scenario, body: &Body, words: &[Word]) -> Resul
 }
 
 /// What a line of the form of this one stands for, by the words behind it.
-#[tactic(auto, unfolding(rk_model::specs::Reading::form_line))]
+#[tactic(auto, unfolding(rk_model::specs::Text::Reading::form_line))]
 fn read_form(
     scenario: &Scenario,
     body: &Body,
@@ -54,7 +54,7 @@ fn read_form(
 }
 
 /// What a line of the form of this one with one operand stands for.
-#[tactic(auto, unfolding(rk_model::specs::Reading::form_line, rk_model::specs::Reading::operand_of))]
+#[tactic(auto, unfolding(rk_model::specs::Text::Reading::form_line, rk_model::specs::Text::Reading::operand_of))]
 fn read_one(scenario: &Scenario, body: &Body, form: Op, a: &[u8]) -> Result<Op, ScenarioWhy>
     requires bodies { length scenario.now.bodies ≤ 255 }
     requires lines { length body.now.lines ≤ 1000 }
@@ -72,7 +72,7 @@ fn read_one(scenario: &Scenario, body: &Body, form: Op, a: &[u8]) -> Result<Op, 
 }
 
 /// What a line of the form of this one with two operands stands for.
-#[tactic(auto, unfolding(rk_model::specs::Reading::form_line, rk_model::specs::Reading::operand_of))]
+#[tactic(auto, unfolding(rk_model::specs::Text::Reading::form_line, rk_model::specs::Text::Reading::operand_of))]
 fn read_two(
     scenario: &Scenario,
     body: &Body,
@@ -92,7 +92,7 @@ fn read_two(
 }
 
 /// What a line of the form of this one with three operands stands for.
-#[tactic(auto, unfolding(rk_model::specs::Reading::form_line, rk_model::specs::Reading::operand_of))]
+#[tactic(auto, unfolding(rk_model::specs::Text::Reading::form_line, rk_model::specs::Text::Reading::operand_of))]
 fn read_three(
     scenario: &Scenario,
     body: &Body,

@@ -1,10 +1,10 @@
 ghost use Rattle.std.specs.Prelude.{◌≡◌, ◌<◌, ◌≤◌, ◌+◌, ◌^◌, length, IfOk, IfErr, OnOk};
 ghost use Rattle.rk_model.specs.declared.scenario.Scenario.{Scenario};
-ghost use Rattle.rk_model.specs.Scenarios.{ScenarioText, IsScenario};
-ghost use Rattle.rk_model.specs.Words.{lines_of, lines_from};
-ghost use Rattle.rk_model.specs.Reading.{verdict, verdict_from, at_end, after_line, start};
+ghost use Rattle.rk_model.specs.Text.Scenarios.{ScenarioText, IsScenario};
+ghost use Rattle.rk_model.specs.Text.Words.{lines_of, lines_from};
+ghost use Rattle.rk_model.specs.Text.Reading.{verdict, verdict_from, at_end, after_line, start};
 ghost use Rattle.rk_scenario.specs.Drafts.{draft_of, phase_of, Takes, IsSmall};
-ghost use Rattle.rk_scenario.specs.Outcomes.{Answers, Advances, IsRefusal, Gives};
+ghost use Rattle.rk_scenario.specs.ReadingAnswers.{Answers, Advances, IsRefusal, Gives};
 
 use crate::draft::{Draft, Phase};
 use crate::errors::{LineError, ScenarioError};
@@ -17,7 +17,7 @@ use std::alloc::Global;
 const MOST_BYTES: usize = 1_048_576;
 
 /// Takes a line.
-#[tactic(auto, unfolding(rk_model::specs::Reading::after_line))]
+#[tactic(auto, unfolding(rk_model::specs::Text::Reading::after_line))]
 fn take_line(alloc: Global, draft: &mut Draft, line: &[u8]) -> Result<(), LineError>
     requires { IsSmall draft.old }
     ensures next { Takes result (after_line (draft_of draft.old) line.now) draft.new }
@@ -91,7 +91,7 @@ fn read_text(alloc: Global, bytes: &[u8]) -> Result<Scenario, ScenarioError>
 ///
 /// `Refused` with the first line, counted from 1, at which no text goes on, and why; line 0 where
 /// the text has more than 1,048,576 bytes. `Memory` where memory was wanted.
-#[tactic(auto, using(crate::proofs::Texts::text_from_answer, crate::proofs::Texts::only_from_answer, crate::proofs::Texts::known_from_answer, crate::proofs::Texts::refusal_from_answer))]
+#[tactic(auto, using(crate::proofs::TextLemmas::text_from_answer, crate::proofs::TextLemmas::only_from_answer, crate::proofs::TextLemmas::known_from_answer, crate::proofs::TextLemmas::refusal_from_answer))]
 pub fn read_scenario(alloc: Global, bytes: &[u8]) -> Result<Scenario, ScenarioError>
     ensures text { IfOk result (ScenarioText bytes.now) }
     ensures only { (s : Scenario) → ScenarioText bytes.now s → Gives result s }

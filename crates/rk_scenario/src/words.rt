@@ -1,6 +1,6 @@
 ghost use Rattle.std.specs.Prelude.{◌≡◌, ◌<◌, ◌++◌, [], IfOk, OnOk, length};
 ghost use Rattle.std.specs.List.{list_all};
-ghost use Rattle.rk_model.specs.Words.{words_of, words_from, word_before, is_allowed, is_plain, is_skipped};
+ghost use Rattle.rk_model.specs.Text.Words.{words_of, words_from, word_before, is_allowed, is_plain, is_skipped};
 
 use rk_model::{Items, NoMemory};
 use std::alloc::Global;

@@ -1,7 +1,7 @@
 //! What directives of all classes of objects share: making, naming and removing an object.
 
 ghost use Rattle.std.specs.Prelude.{◌≡◌, ◌≤◌, IfOk, None, true};
-ghost use Rattle.rk_model.specs.Objects.{is_live, ident, without_object};
+ghost use Rattle.rk_model.specs.Directives.Objects.{is_live, ident, without_object};
 ghost use Rattle.rk_kernel.specs.Does.{Does, Creates};
 ghost use Rattle.rk_parts.specs.Pieces.{plain_of};
 ghost use Rattle.rk_parts.specs.Pinned.{stored};

@@ -3,12 +3,12 @@
 ghost use Rattle.std.specs.Prelude.{◌≡◌, ◌<◌, ℕ, length, true};
 ghost use Rattle.rk_model.specs.declared.ids.Class.TheVariants.{Task};
 ghost use Rattle.rk_model.specs.State.{no_thread, thread_at, put_thread};
-ghost use Rattle.rk_model.specs.Objects.{is_live, object_of};
-ghost use Rattle.rk_model.specs.Tasks.{has_begun, task_of, task_named, dormant_in, prio_refusal, task_create, task_ident, is_dormant, with_started, task_start, with_suspended, task_suspend, task_resume, with_base, task_set_priority, without_task, task_delete, task_exit, task_wake_after};
+ghost use Rattle.rk_model.specs.Directives.Objects.{is_live, object_of};
+ghost use Rattle.rk_model.specs.Directives.Tasks.{has_begun, task_of, task_named, dormant_in, prio_refusal, task_create, task_ident, is_dormant, with_started, task_start, with_suspended, task_suspend, task_resume, with_base, task_set_priority, without_task, task_delete, task_exit, task_wake_after};
 ghost use Rattle.rk_model.specs.Limits.{AreRunnable};
 ghost use Rattle.rk_kernel.specs.Calls.{IsActing};
 ghost use Rattle.rk_kernel.specs.Does.{Does};
-ghost use Rattle.rk_parts.specs.Named.{AreNamed};
+ghost use Rattle.rk_parts.specs.NamesAgree.{AreNamed};
 ghost use Rattle.rk_parts.specs.Pieces.{plain_of};
 ghost use Rattle.rk_parts.specs.Pinned.{stored};
 
@@ -30,7 +30,7 @@ fn has_begun(life: Life) -> bool
 }
 
 /// The live task whose id these bits are; `None` exactly where they are the id of no live task.
-#[tactic(auto, using(crate::proofs::Naming::task_lives))]
+#[tactic(auto, using(crate::proofs::NamesAgreeLemmas::task_lives))]
 fn live_task(core: &Core, bits: u32) -> Option<ThreadIx>
     requires { AreNamed core.now.table core.now.threads.places }
     ensures { result ≡ object_of (plain_of core.now) Task bits }

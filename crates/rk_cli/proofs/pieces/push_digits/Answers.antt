@@ -1,7 +1,7 @@
 use Rattle.std.proofs.Common.{◌≡◌, ◌-◌, take, drop, slice_set, false, arith}
 use Rattle.std.proofs.lemmas.Grind.{common_steps}
 use Rattle.std.specs.Fmt.{digits}
-use Rattle.rk_cli.proofs.Digits.{before_last}
+use Rattle.rk_cli.proofs.DigitLemmas.{before_last}
 use Rattle.rk_cli.proofs.pieces.push_digits.Goals as goal
 
 pub returns : goal.returns

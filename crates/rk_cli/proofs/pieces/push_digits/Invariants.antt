@@ -1,6 +1,6 @@
 use Rattle.std.proofs.Common.{◌≡◌, ◌^◌, ◌<◌, ◌≤◌, length, drop, false}
 use Rattle.std.specs.Fmt.{digits}
-use Rattle.rk_cli.proofs.Digits.{digits_before}
+use Rattle.rk_cli.proofs.DigitLemmas.{digits_before}
 use Rattle.rk_cli.proofs.pieces.push_digits.Given as goal
 
 abbrev pub invariant-loop-left : goal.invariant-loop-left

@@ -1,6 +1,6 @@
 use Rattle.std.proofs.Common.{◌∙◌, ap, sym}
 use Rattle.std.specs.Option.{option_copied}
-use Rattle.rk_cli.proofs.Ends.{ends_last}
+use Rattle.rk_cli.proofs.EndLemmas.{ends_last}
 use Rattle.rk_cli.proofs.schedule.ends_with_end.Goals as goal
 
 pub returns-in-Some : goal.returns-in-Some

@@ -1,4 +1,4 @@
-use Rattle.rk_cli.proofs.Runs.{texts_planned, faults_refused, texts_completed, faults_completed}
+use Rattle.rk_cli.proofs.PlanLemmas.{texts_planned, faults_refused, texts_completed, faults_completed}
 use Rattle.rk_cli.proofs.top.plain_top.Goals as goal
 
 pub returns-then-is_plan-clause-texts : goal.returns-then-is_plan-clause-texts

@@ -1,4 +1,4 @@
-use Rattle.rk_cli.proofs.Runs.{run_planned, run_limited}
+use Rattle.rk_cli.proofs.PlanLemmas.{run_planned, run_limited}
 use Rattle.rk_cli.proofs.top.plan.Goals as goal
 
 pub returns-in-Planned-clause-run : goal.returns-in-Planned-clause-run

@@ -1,5 +1,5 @@
 use Rattle.std.proofs.Common.{◌≡◌, ◌++◌, ◌≤◌, take, drop, length}
-use Rattle.rk_model.specs.Lines.{filled}
+use Rattle.rk_model.specs.Scheduling.ReadyQueues.{filled}
 use Rattle.rk_cluster.proofs.assign.fill.Given as goal
 
 abbrev pub invariant-loop-at : goal.invariant-loop-at

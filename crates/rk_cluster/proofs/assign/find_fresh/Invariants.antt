@@ -1,6 +1,6 @@
 use Rattle.std.proofs.Common.{◌≡◌, ◌≤◌, ◌++◌, length, drop, not}
 use Rattle.std.specs.List.{filter}
-use Rattle.rk_model.specs.Lines.{has_cpu}
+use Rattle.rk_model.specs.Scheduling.ReadyQueues.{has_cpu}
 use Rattle.rk_cluster.proofs.assign.find_fresh.Given as goal
 
 abbrev pub invariant-loop-thread : goal.invariant-loop-thread

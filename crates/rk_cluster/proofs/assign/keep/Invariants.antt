@@ -1,5 +1,5 @@
 use Rattle.std.proofs.Common.{◌≡◌, ◌++◌, take, drop, map, length}
-use Rattle.rk_model.specs.Lines.{kept}
+use Rattle.rk_model.specs.Scheduling.ReadyQueues.{kept}
 use Rattle.rk_cluster.proofs.assign.keep.Given as goal
 
 abbrev pub invariant-loop-at : goal.invariant-loop-at

@@ -1,5 +1,5 @@
 use Rattle.std.proofs.Common.{arith}
-use Rattle.rk_cluster.proofs.Highest.{top_of}
+use Rattle.rk_cluster.proofs.HighestBitLemmas.{top_of}
 use Rattle.rk_cluster.proofs.marks.greatest.Goals as goal
 
 pub returns-clause-there : goal.returns-clause-there

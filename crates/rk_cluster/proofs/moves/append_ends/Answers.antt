@@ -1,4 +1,4 @@
-use Rattle.rk_cluster.proofs.Passing.{rising, rising_out, rise_on, risen}
+use Rattle.rk_cluster.proofs.RegisterPassLemmas.{rising, rising_out, rise_on, risen}
 use Rattle.rk_cluster.proofs.moves.append_ends.Goals as goal
 
 pub rising-init : goal.rising-init

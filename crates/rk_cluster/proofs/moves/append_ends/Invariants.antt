@@ -1,5 +1,5 @@
 use Rattle.std.proofs.Common.{◌-◌}
-use Rattle.rk_cluster.proofs.Passing.{IsRising}
+use Rattle.rk_cluster.proofs.RegisterPassLemmas.{IsRising}
 use Rattle.rk_cluster.proofs.moves.append_ends.Given as goal
 
 abbrev pub invariant-rising : goal.invariant-rising

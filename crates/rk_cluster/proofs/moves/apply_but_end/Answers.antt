@@ -1,8 +1,8 @@
 use Rattle.std.proofs.Common.{⊎_elim, Some, ◌∷◌, List, ◌∙◌, sym, refl, ap}
 use Rattle.rk_line.specs.declared.line.Place.{Place}
-use Rattle.rk_line.proofs.Lines.{gone}
+use Rattle.rk_line.proofs.LineLemmas.{gone}
 use Rattle.rk_cluster.specs.declared.moves.Change.{Change}
-use Rattle.rk_cluster.proofs.Passing.{kept_none, kept_out, kept_stay}
+use Rattle.rk_cluster.proofs.RegisterPassLemmas.{kept_none, kept_out, kept_stay}
 use Rattle.rk_cluster.proofs.moves.apply_but_end.Goals as goal
 
 pub returns-in_default : goal.returns-in_default

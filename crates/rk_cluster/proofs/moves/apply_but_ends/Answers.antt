@@ -1,4 +1,4 @@
-use Rattle.rk_cluster.proofs.Passing.{fall_on, fallen}
+use Rattle.rk_cluster.proofs.RegisterPassLemmas.{fall_on, fallen}
 use Rattle.rk_cluster.proofs.moves.apply_but_ends.Goals as goal
 
 pub falling-preserved : goal.falling-preserved

@@ -1,4 +1,4 @@
-use Rattle.rk_cluster.proofs.Passing.{IsFalling}
+use Rattle.rk_cluster.proofs.RegisterPassLemmas.{IsFalling}
 use Rattle.rk_cluster.proofs.moves.apply_but_ends.Given as goal
 
 abbrev pub invariant-falling : goal.invariant-falling

@@ -1,5 +1,5 @@
 use Rattle.std.proofs.Common.{◌∙◌, sym}
-use Rattle.rk_line.proofs.Lines.{with_prio_none}
+use Rattle.rk_line.proofs.LineLemmas.{with_prio_none}
 use Rattle.rk_cluster.proofs.moves.change_in.Goals as goal
 
 pub returns-else-contains : goal.returns-else-contains

@@ -1,5 +1,5 @@
 use Rattle.std.proofs.Common.{◌∙◌, sym}
-use Rattle.rk_line.proofs.Lines.{without_none}
+use Rattle.rk_line.proofs.LineLemmas.{without_none}
 use Rattle.rk_cluster.proofs.moves.take_out.Goals as goal
 
 pub returns-else-contains : goal.returns-else-contains

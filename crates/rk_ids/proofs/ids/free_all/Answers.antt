@@ -1,6 +1,6 @@
 use Rattle.std.proofs.Common.{arith, refl}
-use Rattle.rk_model.proofs.Counts.{length_range}
-use Rattle.rk_ids.proofs.Splits.{pushed}
+use Rattle.rk_model.proofs.CountLemmas.{length_range}
+use Rattle.rk_ids.proofs.FreeIndexLemmas.{pushed}
 use Rattle.rk_ids.proofs.ids.free_all.Goals as goal
 
 pub push-requires : goal.push-requires

@@ -1,6 +1,6 @@
 use Rattle.std.proofs.Common.{◌≡◌, drop}
 use Rattle.rk_model.specs.Names.{least_named}
-use Rattle.rk_ids.proofs.Leasts.{least_of}
+use Rattle.rk_ids.proofs.LeastNameLemmas.{least_of}
 use Rattle.rk_ids.proofs.ids.least_index.Given as goal
 
 abbrev pub invariant-loop-object : goal.invariant-loop-object

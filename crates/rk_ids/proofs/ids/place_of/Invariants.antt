@@ -1,5 +1,5 @@
 use Rattle.std.proofs.Common.{◌≡◌, ◌+◌, drop}
-use Rattle.rk_ids.proofs.Splits.{position}
+use Rattle.rk_ids.proofs.FreeIndexLemmas.{position}
 use Rattle.rk_ids.proofs.ids.place_of.Given as goal
 
 abbrev pub invariant-loop-at : goal.invariant-loop-at

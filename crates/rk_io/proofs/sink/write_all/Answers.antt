@@ -1,5 +1,5 @@
 use Rattle.std.proofs.Common.{rules}
-use Rattle.rk_io.proofs.Told.{appends_more, take_join}
+use Rattle.rk_io.proofs.ToldLemmas.{appends_more, take_join}
 use Rattle.rk_io.proofs.sink.write_all.Goals as goal
 
 pub loop-at-preserved : goal.loop-at-preserved

@@ -1,5 +1,5 @@
 use Rattle.std.proofs.Common.{Result, Ok, Err, OnErr, ◌++◌, take}
-use Rattle.rk_io.proofs.Told.{consumes_more}
+use Rattle.rk_io.proofs.ToldLemmas.{consumes_more}
 use Rattle.rk_io.proofs.source.read_all.Goals as goal
 
 on_error : {T E P : Type 0} (r : Result T E) → P → OnErr r P

@@ -1,12 +1,12 @@
 use Rattle.std.proofs.Common.{rules, ◌<◌, ◌≤◌, arith, ap, sym, ◌∙◌, subst}
 use Rattle.rk_model.specs.declared.state.Thread.{Thread}
 use Rattle.rk_model.specs.State.{Plain}
-use Rattle.rk_model.specs.Ticks.{charged}
+use Rattle.rk_model.specs.Scheduling.Ticks.{charged}
 use Rattle.rk_parts.specs.Threads.{Threads}
 use Rattle.rk_parts.specs.Pinned.{Stored, linings}
 use Rattle.rk_parts.specs.Pieces.{plain_of}
-use Rattle.rk_kernel.proofs.Bounds.{bounds_at}
-use Rattle.rk_kernel.proofs.Charging.{uncharged, one_charged, none_more_charged, all_charged}
+use Rattle.rk_kernel.proofs.ThreadBoundsLemmas.{bounds_at}
+use Rattle.rk_kernel.proofs.ChargeLemmas.{uncharged, one_charged, none_more_charged, all_charged}
 use Rattle.rk_kernel.proofs.clock.charge_all.Goals as goal
 use Rattle.rk_kernel.proofs.clock.charge_all.Goals.{in-Runs, in_default}
 

@@ -1,5 +1,5 @@
 use Rattle.rk_parts.specs.Pieces.{plain_of}
-use Rattle.rk_kernel.proofs.Charging.{IsCharged}
+use Rattle.rk_kernel.proofs.ChargeLemmas.{IsCharged}
 use Rattle.rk_kernel.proofs.clock.charge_all.Given as goal
 
 abbrev pub invariant-loop-cpu : goal.invariant-loop-cpu

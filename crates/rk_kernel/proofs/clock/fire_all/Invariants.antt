@@ -1,5 +1,5 @@
 use Rattle.std.proofs.Common.{◌≡◌, ◌-◌, length}
-use Rattle.rk_model.specs.Ticks.{fire_from, fire_all}
+use Rattle.rk_model.specs.Scheduling.Ticks.{fire_from, fire_all}
 use Rattle.rk_parts.specs.Pinned.{IsNoted}
 use Rattle.rk_parts.specs.Pieces.{plain_of}
 use Rattle.rk_kernel.specs.Sound.{IsSound}

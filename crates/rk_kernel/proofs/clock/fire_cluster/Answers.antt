@@ -1,7 +1,7 @@
 use Rattle.std.proofs.Common.{◌<◌, length, arith, ◌∙◌}
 use Rattle.std.proofs.lemmas.List.{length-map}
 use Rattle.rk_parts.specs.Pieces.{plain_of, cluster_of}
-use Rattle.rk_kernel.proofs.Firings.{fewer_due}
+use Rattle.rk_kernel.proofs.FiringLemmas.{fewer_due}
 use Rattle.rk_kernel.proofs.clock.fire_cluster.Goals as goal
 
 pub firing-smaller : goal.firing-smaller

@@ -1,13 +1,13 @@
 use Rattle.std.proofs.Common.{length, arith, refl, ap, sym, ◌∙◌, subst, []}
 use Rattle.std.proofs.lemmas.List.{length-map}
 use Rattle.rk_model.specs.State.{Plain}
-use Rattle.rk_model.specs.Priorities.{standings}
-use Rattle.rk_model.specs.Ticks.{expire}
+use Rattle.rk_model.specs.Scheduling.Priorities.{standings}
+use Rattle.rk_model.specs.Scheduling.Ticks.{expire}
 use Rattle.rk_parts.specs.Firing.{due_now}
 use Rattle.rk_parts.specs.Pieces.{plain_of, cluster_of}
 use Rattle.rk_kernel.specs.Sound.{IsSound}
-use Rattle.rk_kernel.proofs.Firings.{unchanged, fires_none, fires_some, head_some, rest_of, expired, expire_gentle, homes_taken}
-use Rattle.rk_kernel.proofs.Ready.{stood_before, ready, settled_next, settled_sound, settled_count, noted_kept}
+use Rattle.rk_kernel.proofs.FiringLemmas.{unchanged, fires_none, fires_some, head_some, rest_of, expired, expire_gentle, homes_taken}
+use Rattle.rk_kernel.proofs.PiecesSettledLemmas.{stood_before, ready, settled_next, settled_sound, settled_count, noted_kept}
 use Rattle.rk_kernel.proofs.clock.fire_first.Goals as goal
 
 pub rung-requires : goal.rung-requires

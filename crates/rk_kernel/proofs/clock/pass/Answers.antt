@@ -1,10 +1,10 @@
 use Rattle.std.proofs.Common.{◌+◌, ap, sym, ◌∙◌, subst}
 use Rattle.rk_model.specs.State.{Plain}
-use Rattle.rk_model.specs.Priorities.{standings}
+use Rattle.rk_model.specs.Scheduling.Priorities.{standings}
 use Rattle.rk_parts.specs.Pieces.{plain_of}
 use Rattle.rk_kernel.specs.Sound.{IsSound}
-use Rattle.rk_kernel.proofs.Passing.{sound_pass, standings-pass}
-use Rattle.rk_kernel.proofs.Ready.{noted_kept}
+use Rattle.rk_kernel.proofs.TickLemmas.{sound_pass, standings-pass}
+use Rattle.rk_kernel.proofs.PiecesSettledLemmas.{noted_kept}
 use Rattle.rk_kernel.proofs.clock.pass.Goals as goal
 
 pub returns : goal.returns

@@ -1,7 +1,7 @@
 use Rattle.std.proofs.Common.{sym, subst}
-use Rattle.rk_model.proofs.Limits.{limits_of}
+use Rattle.rk_model.proofs.LimitLemmas.{limits_of}
 use Rattle.rk_kernel.specs.Manned.{AreManned}
-use Rattle.rk_kernel.proofs.Manning.{manned_opening}
+use Rattle.rk_kernel.proofs.RunnerLaws.{manned_opening}
 use Rattle.rk_kernel.proofs.kernel.open_parts.Goals as goal
 
 pub make_opening-requires : goal.make_opening-requires

@@ -1,5 +1,5 @@
 use Rattle.rk_parts.specs.Pieces.{plain_of}
-use Rattle.rk_kernel.proofs.Keeping.{step_manned, step_refused}
+use Rattle.rk_kernel.proofs.StepLemmas.{step_manned, step_refused}
 use Rattle.rk_kernel.proofs.kernel.step_all.Goals as goal
 
 pub invariant_of-parts : goal.invariant_of-parts

@@ -1,6 +1,6 @@
 use Rattle.rk_parts.specs.Pieces.{plain_of}
-use Rattle.rk_kernel.proofs.Keeping.{tick_manned}
-use Rattle.rk_kernel.proofs.Manning.{run_once}
+use Rattle.rk_kernel.proofs.StepLemmas.{tick_manned}
+use Rattle.rk_kernel.proofs.RunnerLaws.{run_once}
 use Rattle.rk_kernel.proofs.kernel.tick_all.Goals as goal
 
 pub tick_core-requires-clause-once : goal.tick_core-requires-clause-once

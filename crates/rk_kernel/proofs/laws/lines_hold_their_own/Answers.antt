@@ -1,4 +1,4 @@
-use Rattle.rk_kernel.proofs.Belonging.{lines_hold}
+use Rattle.rk_kernel.proofs.ReadyQueueLaws.{lines_hold}
 use Rattle.rk_kernel.proofs.laws.lines_hold_their_own.Goals as goal
 
 pub returns : goal.returns

@@ -1,4 +1,4 @@
-use Rattle.rk_kernel.proofs.Going.{lowest_goes}
+use Rattle.rk_kernel.proofs.LowestHistoryLaws.{lowest_goes}
 use Rattle.rk_kernel.proofs.laws.lowest_goes_on.Goals as goal
 
 pub returns : goal.returns

@@ -1,4 +1,4 @@
-use Rattle.rk_kernel.proofs.Ranking.{runners_urgent}
+use Rattle.rk_kernel.proofs.UrgencyLaws.{runners_urgent}
 use Rattle.rk_kernel.proofs.laws.runners_are_the_most_urgent.Goals as goal
 
 pub returns : goal.returns

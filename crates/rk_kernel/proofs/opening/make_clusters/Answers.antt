@@ -1,5 +1,5 @@
 use Rattle.std.proofs.Common.{arith}
-use Rattle.rk_kernel.proofs.Openings.{first_within, first_more, made_more, lined_more}
+use Rattle.rk_kernel.proofs.OpeningLemmas.{first_within, first_more, made_more, lined_more}
 use Rattle.rk_kernel.proofs.opening.make_clusters.Goals as goal
 
 pub make_cluster-requires-clause-cpus : goal.make_cluster-requires-clause-cpus

@@ -1,5 +1,5 @@
 use Rattle.std.proofs.Common.{◌≡◌, ◌++◌, take, drop, map}
-use Rattle.rk_model.specs.Scenarios.{cpus_in}
+use Rattle.rk_model.specs.Text.Scenarios.{cpus_in}
 use Rattle.rk_model.specs.Histories.{free_cluster}
 use Rattle.rk_parts.specs.Pieces.{clusters_of}
 use Rattle.rk_parts.specs.Pinned.{linings}

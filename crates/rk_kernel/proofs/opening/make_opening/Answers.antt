@@ -5,8 +5,8 @@ use Rattle.rk_model.specs.State.{Plain}
 use Rattle.rk_model.specs.Histories.{vacant, started, begun_names}
 use Rattle.rk_parts.specs.declared.core_state.Core.{Core}
 use Rattle.rk_parts.specs.Pieces.{plain_of}
-use Rattle.rk_kernel.proofs.Openings.{sound_vacant, gentle_started, can_open, standings_vacant}
-use Rattle.rk_kernel.proofs.Ready.{settled_next, settled_sound}
+use Rattle.rk_kernel.proofs.OpeningLemmas.{sound_vacant, gentle_started, can_open, standings_vacant}
+use Rattle.rk_kernel.proofs.PiecesSettledLemmas.{settled_next, settled_sound}
 use Rattle.rk_kernel.proofs.opening.make_opening.Goals as goal
 
 pub settle_core-requires : goal.settle_core-requires

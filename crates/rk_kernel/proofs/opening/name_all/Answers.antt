@@ -1,5 +1,5 @@
 use Rattle.std.proofs.Common.{arith}
-use Rattle.rk_kernel.proofs.Beginning.{named_more}
+use Rattle.rk_kernel.proofs.InitNamesLemmas.{named_more}
 use Rattle.rk_kernel.proofs.opening.name_all.Goals as goal
 
 pub loop-at-preserved : goal.loop-at-preserved

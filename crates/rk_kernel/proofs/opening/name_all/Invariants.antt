@@ -1,5 +1,5 @@
 use Rattle.std.proofs.Common.{◌≡◌, take}
-use Rattle.rk_kernel.proofs.Beginning.{begun_table}
+use Rattle.rk_kernel.proofs.InitNamesLemmas.{begun_table}
 use Rattle.rk_kernel.proofs.opening.name_all.Given as goal
 
 abbrev pub invariant-loop-at : goal.invariant-loop-at

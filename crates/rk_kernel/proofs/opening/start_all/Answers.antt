@@ -1,7 +1,7 @@
 use Rattle.std.proofs.Common.{ap, ◌∙◌, arith}
 use Rattle.rk_model.specs.Lists.{with_nth}
 use Rattle.rk_parts.specs.Threads.{Threads}
-use Rattle.rk_kernel.proofs.Openings.{started_more}
+use Rattle.rk_kernel.proofs.OpeningLemmas.{started_more}
 use Rattle.rk_kernel.proofs.opening.start_all.Goals as goal
 
 pub loop-at-preserved : goal.loop-at-preserved

@@ -1,13 +1,13 @@
 use Rattle.std.proofs.Common.{rules, Option, ℕ, ap, ◌∙◌}
 use Rattle.std.specs.Option.{option_to_list}
 use Rattle.rk_model.specs.declared.entry.Answer.{Answer}
-use Rattle.rk_model.specs.Settling.{settle}
-use Rattle.rk_model.specs.Outcomes.{after_outcome, last_of}
+use Rattle.rk_model.specs.Scheduling.Settling.{settle}
+use Rattle.rk_model.specs.Directives.Outcomes.{after_outcome, last_of}
 use Rattle.rk_model.specs.Steps.{action}
 use Rattle.rk_parts.specs.Pieces.{plain_of}
-use Rattle.rk_kernel.proofs.Callers.{acting_of}
-use Rattle.rk_kernel.proofs.Directing.{action_done, line_after, bodies_after, followed}
-use Rattle.rk_kernel.proofs.Ready.{stood_before, ready, settled_next, settled_sound}
+use Rattle.rk_kernel.proofs.CallerLemmas.{acting_of}
+use Rattle.rk_kernel.proofs.DirectiveLemmas.ActionLemmas.{action_done, line_after, bodies_after, followed}
+use Rattle.rk_kernel.proofs.PiecesSettledLemmas.{stood_before, ready, settled_next, settled_sound}
 use Rattle.rk_kernel.proofs.steps.act_by.Goals as goal
 
 pub action-answer-requires : goal.action-answer-requires

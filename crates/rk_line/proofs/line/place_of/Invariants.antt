@@ -1,5 +1,5 @@
 use Rattle.std.proofs.Common.{◌≡◌, ◌+◌, drop}
-use Rattle.rk_line.proofs.Lines.{position}
+use Rattle.rk_line.proofs.LineLemmas.{position}
 use Rattle.rk_line.proofs.line.place_of.Given as goal
 
 abbrev pub invariant-loop-at : goal.invariant-loop-at

@@ -1,5 +1,5 @@
 use Rattle.std.proofs.Common.{◌≡◌, drop}
-use Rattle.rk_model.specs.Forms.{form_from}
+use Rattle.rk_model.specs.Text.Forms.{form_from}
 use Rattle.rk_model.proofs.forms.find.Given as goal
 
 abbrev pub invariant-loop-form : goal.invariant-loop-form

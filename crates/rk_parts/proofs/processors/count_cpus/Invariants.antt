@@ -1,5 +1,5 @@
 use Rattle.std.proofs.Common.{◌≡◌, ◌+◌, drop, length}
-use Rattle.rk_model.specs.Running.{all_cpus}
+use Rattle.rk_model.specs.Scheduling.Running.{all_cpus}
 use Rattle.rk_parts.specs.Pieces.{clusters_of}
 use Rattle.rk_parts.proofs.processors.count_cpus.Given as goal
 

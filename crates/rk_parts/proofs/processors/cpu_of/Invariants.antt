@@ -1,6 +1,6 @@
 use Rattle.std.proofs.Common.{◌≡◌, drop, None}
 use Rattle.std.specs.List.{slice_index_or}
-use Rattle.rk_model.specs.Running.{all_cpus}
+use Rattle.rk_model.specs.Scheduling.Running.{all_cpus}
 use Rattle.rk_parts.specs.Pieces.{clusters_of}
 use Rattle.rk_parts.proofs.processors.cpu_of.Given as goal
 

@@ -1,5 +1,5 @@
 use Rattle.std.proofs.Common.{◌≡◌, ◌-◌}
-use Rattle.rk_model.specs.Running.{cpu_count, least, least_from}
+use Rattle.rk_model.specs.Scheduling.Running.{cpu_count, least, least_from}
 use Rattle.rk_parts.specs.Pieces.{plain_of}
 use Rattle.rk_parts.proofs.processors.least_of.Given as goal
 

@@ -3,8 +3,8 @@ use Rattle.std.specs.Option.{option_to_list}
 use Rattle.std.proofs.lemmas.List.{drop_all}
 use Rattle.rk_cluster.specs.Registers.{change_at}
 use Rattle.rk_parts.specs.Threads.{own_standing}
-use Rattle.rk_parts.specs.Registers.{register}
-use Rattle.rk_parts.proofs.Filling.{IsFilling, fill_none, fill_some, fill_other, fill_behind, filled, left_from}
+use Rattle.rk_parts.specs.ClusterRegisters.{register}
+use Rattle.rk_parts.proofs.RegisterFillLemmas.{IsFilling, fill_none, fill_some, fill_other, fill_behind, filled, left_from}
 use Rattle.rk_parts.proofs.settle.fill_register.Goals as goal
 use Rattle.rk_parts.proofs.settle.fill_register.Goals.{in-Some, in_default}
 

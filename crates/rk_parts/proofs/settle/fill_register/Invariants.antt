@@ -1,9 +1,9 @@
 use Rattle.std.proofs.Common.{map, drop, ◌++◌}
 use Rattle.std.specs.Option.{option_to_list}
 use Rattle.rk_cluster.specs.Registers.{change_at}
-use Rattle.rk_parts.specs.Registers.{register}
+use Rattle.rk_parts.specs.ClusterRegisters.{register}
 use Rattle.rk_parts.specs.Threads.{own_standing}
-use Rattle.rk_parts.proofs.Filling.{IsFilling}
+use Rattle.rk_parts.proofs.RegisterFillLemmas.{IsFilling}
 use Rattle.rk_parts.proofs.settle.fill_register.Given as goal
 
 abbrev pub invariant-loop-thread : goal.invariant-loop-thread

@@ -3,7 +3,7 @@ use Rattle.std.specs.Option.{option_to_list}
 use Rattle.std.proofs.Math.Seq.{map-set_same}
 use Rattle.rk_parts.specs.declared.core_state.ClusterPart.{ClusterPart}
 use Rattle.rk_parts.specs.Threads.{own_standing}
-use Rattle.rk_parts.proofs.Clusters.{part_relined}
+use Rattle.rk_parts.proofs.SettledClusterLemmas.{part_relined}
 use Rattle.rk_parts.proofs.settle.settle_all.Goals as goal
 
 pub loop-at-preserved : goal.loop-at-preserved

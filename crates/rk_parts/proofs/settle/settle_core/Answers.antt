@@ -2,16 +2,16 @@ use Rattle.std.proofs.Common.{◌≡◌, List, map, ap, sym, ◌∙◌, subst}
 use Rattle.std.specs.Option.{option_to_list}
 use Rattle.rk_model.specs.State.{Plain, ClusterState}
 use Rattle.rk_model.specs.declared.settling.Standing.{Standing}
-use Rattle.rk_model.specs.Priorities.{standings}
-use Rattle.rk_model.specs.Settling.{moves}
+use Rattle.rk_model.specs.Scheduling.Priorities.{standings}
+use Rattle.rk_model.specs.Scheduling.Settling.{moves}
 use Rattle.rk_cluster.specs.Clusters.{Cluster}
 use Rattle.rk_parts.specs.Pieces.{plain_of, clusters_of}
 use Rattle.rk_parts.specs.Threads.{own_standing}
 use Rattle.rk_parts.specs.Pinned.{linings, key_of, AllKeyed, AreNumbered}
 use Rattle.rk_parts.specs.Settled.{settled_from}
-use Rattle.rk_parts.proofs.Standings.{standings_own}
-use Rattle.rk_parts.proofs.Settling.{standings-with_clusters, settle_noted}
-use Rattle.rk_parts.proofs.Clusters.{parts_settled, numbered_relined, keyed_relined}
+use Rattle.rk_parts.proofs.StandingLemmas.{standings_own}
+use Rattle.rk_parts.proofs.SettlingLemmas.{standings-with_clusters, settle_noted}
+use Rattle.rk_parts.proofs.SettledClusterLemmas.{parts_settled, numbered_relined, keyed_relined}
 use Rattle.rk_parts.proofs.settle.settle_core.Goals as goal
 
 pub returns-clause-settled : goal.returns-clause-settled

@@ -1,5 +1,5 @@
 use Rattle.std.proofs.Common.{rules, arith}
-use Rattle.rk_parts.proofs.Noting.{room_to_mark, apart_marked, marks_more}
+use Rattle.rk_parts.proofs.MarkLemmas.{room_to_mark, apart_marked, marks_more}
 use Rattle.rk_parts.proofs.threads.mark.Goals as goal
 
 pub push-requires : goal.push-requires

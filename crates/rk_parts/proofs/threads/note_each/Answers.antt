@@ -1,6 +1,6 @@
 use Rattle.std.proofs.Common.{arith}
 use Rattle.std.proofs.lemmas.List.{drop_all}
-use Rattle.rk_parts.proofs.Noting.{all_noted}
+use Rattle.rk_parts.proofs.MarkLemmas.{all_noted}
 use Rattle.rk_parts.proofs.threads.note_each.Goals as goal
 
 pub returns : goal.returns

@@ -1,5 +1,5 @@
 use Rattle.std.proofs.Common.{refl}
-use Rattle.rk_parts.proofs.Pieces.{put_armed, cluster_at-plain_of, same_stored}
+use Rattle.rk_parts.proofs.PiecesLemmas.{put_armed, cluster_at-plain_of, same_stored}
 use Rattle.rk_parts.proofs.timers.arm_timer.Goals as goal
 
 pub add-requires : goal.add-requires

@@ -1,5 +1,5 @@
 use Rattle.std.proofs.Common.{refl}
-use Rattle.rk_parts.proofs.Pieces.{put_cancelled, same_stored}
+use Rattle.rk_parts.proofs.PiecesLemmas.{put_cancelled, same_stored}
 use Rattle.rk_parts.proofs.timers.cancel_timer.Goals as goal
 
 pub returns-clause-next : goal.returns-clause-next

@@ -1,5 +1,5 @@
 use Rattle.std.proofs.Common.{arith}
-use Rattle.rk_parts.proofs.Cancelling.{cancelled_one}
+use Rattle.rk_parts.proofs.TimerListLemmas.{cancelled_one}
 use Rattle.rk_parts.proofs.timers.remove.Goals as goal
 
 pub looking-preserved-then-is_same : goal.looking-preserved-then-is_same

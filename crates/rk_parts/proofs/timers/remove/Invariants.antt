@@ -1,5 +1,5 @@
 use Rattle.std.proofs.Common.{◌≡◌, ◌≤◌, ◌-◌, ◌++◌, take, drop, length}
-use Rattle.rk_model.specs.Timers.{without_timer}
+use Rattle.rk_model.specs.Scheduling.Timers.{without_timer}
 use Rattle.rk_parts.proofs.timers.remove.Given as goal
 
 abbrev pub invariant-looking : goal.invariant-looking

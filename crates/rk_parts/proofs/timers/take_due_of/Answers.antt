@@ -1,5 +1,5 @@
 use Rattle.std.proofs.Common.{refl}
-use Rattle.rk_parts.proofs.Pieces.{put_taken, same_stored}
+use Rattle.rk_parts.proofs.PiecesLemmas.{put_taken, same_stored}
 use Rattle.rk_parts.proofs.timers.take_due_of.Goals as goal
 
 pub returns-clause-taken : goal.returns-clause-taken

@@ -1,5 +1,5 @@
 use Rattle.std.proofs.Common.{arith, ap, length}
-use Rattle.rk_parts.proofs.Cancelling.{taken_first}
+use Rattle.rk_parts.proofs.TimerListLemmas.{taken_first}
 use Rattle.rk_parts.proofs.timers.take_first.Goals as goal
 
 pub returns-then-as_slice-at-clause-rest : goal.returns-then-as_slice-at-clause-rest

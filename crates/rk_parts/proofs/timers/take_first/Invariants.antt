@@ -1,5 +1,5 @@
 use Rattle.std.proofs.Common.{◌≡◌, ◌++◌, drop, take}
-use Rattle.rk_model.specs.Timers.{due_at, without_due}
+use Rattle.rk_model.specs.Scheduling.Timers.{due_at, without_due}
 use Rattle.rk_parts.proofs.timers.take_first.Given as goal
 
 abbrev pub invariant-loop-at : goal.invariant-loop-at

@@ -1,5 +1,5 @@
 use Rattle.std.proofs.Common.{◌≡◌, ◌+◌, drop}
-use Rattle.rk_model.specs.Scenarios.{cpus_in}
+use Rattle.rk_model.specs.Text.Scenarios.{cpus_in}
 use Rattle.rk_scenario.proofs.draft.cpus_in.Given as goal
 
 abbrev pub invariant-loop-count : goal.invariant-loop-count

@@ -1,4 +1,4 @@
-use Rattle.rk_scenario.proofs.Stops.{faults_at_first_stop}
+use Rattle.rk_scenario.proofs.FirstStopLemmas.{faults_at_first_stop}
 use Rattle.rk_scenario.proofs.laws.fault_is_at_first_stop.Goals as goal
 
 pub returns : goal.returns

@@ -1,4 +1,4 @@
-use Rattle.rk_scenario.proofs.Texts.{one_scenario}
+use Rattle.rk_scenario.proofs.TextLemmas.{one_scenario}
 use Rattle.rk_scenario.proofs.laws.text_has_one_scenario.Goals as goal
 
 pub returns : goal.returns

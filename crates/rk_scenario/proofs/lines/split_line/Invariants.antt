@@ -1,5 +1,5 @@
 use Rattle.std.proofs.Common.{◌≡◌, take, drop}
-use Rattle.rk_model.specs.Words.{lines_from, lines_of}
+use Rattle.rk_model.specs.Text.Words.{lines_from, lines_of}
 use Rattle.rk_scenario.proofs.lines.split_line.Given as goal
 
 abbrev pub invariant-loop-at : goal.invariant-loop-at

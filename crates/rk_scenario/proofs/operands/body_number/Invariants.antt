@@ -1,5 +1,5 @@
 use Rattle.std.proofs.Common.{◌≡◌, drop}
-use Rattle.rk_model.specs.Scenarios.{body_from}
+use Rattle.rk_model.specs.Text.Scenarios.{body_from}
 use Rattle.rk_scenario.proofs.operands.body_number.Given as goal
 
 abbrev pub invariant-loop-at : goal.invariant-loop-at

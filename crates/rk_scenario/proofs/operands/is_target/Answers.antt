@@ -1,5 +1,5 @@
 use Rattle.std.proofs.Common.{◌∙◌}
-use Rattle.rk_scenario.proofs.Numbers.{target_from}
+use Rattle.rk_scenario.proofs.NumberLemmas.{target_from}
 use Rattle.rk_scenario.proofs.operands.is_target.Goals as goal
 
 pub returns-else-number-eq0 : goal.returns-else-number-eq0

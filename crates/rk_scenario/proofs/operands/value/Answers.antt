@@ -1,6 +1,6 @@
 use Rattle.std.proofs.Common.{◌≡◌, ◌+◌, ◌∷◌, Some, get_or, drop, drop-cons, add-one, arith, ◌∙◌}
-use Rattle.rk_model.specs.Words.{digit_below, digit_value}
-use Rattle.rk_scenario.proofs.Numbers.{capped_more}
+use Rattle.rk_model.specs.Text.Words.{digit_below, digit_value}
+use Rattle.rk_scenario.proofs.NumberLemmas.{capped_more}
 use Rattle.rk_scenario.proofs.operands.value.Goals as goal
 
 pub loop-byte-preserved : goal.loop-byte-preserved

@@ -1,6 +1,6 @@
 use Rattle.std.proofs.Common.{◌≡◌, ◌≤◌, min, drop}
 use Rattle.std.specs.Option.{option_map}
-use Rattle.rk_model.specs.Words.{value_from}
+use Rattle.rk_model.specs.Text.Words.{value_from}
 use Rattle.rk_scenario.proofs.operands.value.Given as goal
 
 abbrev pub invariant-loop-byte : goal.invariant-loop-byte

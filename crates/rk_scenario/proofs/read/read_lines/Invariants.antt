@@ -1,6 +1,6 @@
 use Rattle.std.proofs.Common.{◌≡◌, ◌≤◌, ◌+◌, length}
-use Rattle.rk_model.specs.Words.{lines_of}
-use Rattle.rk_model.specs.Reading.{verdict_from, start}
+use Rattle.rk_model.specs.Text.Words.{lines_of}
+use Rattle.rk_model.specs.Text.Reading.{verdict_from, start}
 use Rattle.rk_scenario.specs.Drafts.{IsSmall, draft_of}
 use Rattle.rk_scenario.proofs.read.read_lines.Given as goal
 

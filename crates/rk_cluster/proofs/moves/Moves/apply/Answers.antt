@@ -1,5 +1,5 @@
 use Rattle.rk_cluster.specs.Registers.{change_at}
-use Rattle.rk_cluster.proofs.Passing.{ends_out}
+use Rattle.rk_cluster.proofs.RegisterPassLemmas.{ends_out}
 use Rattle.rk_cluster.proofs.moves.Moves.apply.Goals as goal
 
 pub append_ends-requires-clause-out : goal.append_ends-requires-clause-out

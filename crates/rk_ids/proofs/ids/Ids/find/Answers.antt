@@ -1,4 +1,4 @@
-use Rattle.rk_ids.proofs.Finding.{found_least, found_none}
+use Rattle.rk_ids.proofs.FoundNameLemmas.{found_least, found_none}
 use Rattle.rk_ids.proofs.ids.Ids.find.Goals as goal
 
 pub returns-clause-least : goal.returns-clause-least

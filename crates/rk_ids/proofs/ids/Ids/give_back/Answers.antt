@@ -1,5 +1,5 @@
 use Rattle.std.proofs.Common.{arith, refl}
-use Rattle.rk_ids.proofs.Splits.{there, taken_out, room_to_free, split_given}
+use Rattle.rk_ids.proofs.FreeIndexLemmas.{there, taken_out, room_to_free, split_given}
 use Rattle.rk_ids.proofs.ids.Ids.give_back.Goals as goal
 
 pub take-requires : goal.take-requires

@@ -1,4 +1,4 @@
-use Rattle.rk_ids.proofs.Splits.{found_within}
+use Rattle.rk_ids.proofs.FreeIndexLemmas.{found_within}
 use Rattle.rk_ids.proofs.ids.Ids.id_named.Goals as goal
 
 pub of-requires-clause-low : goal.of-requires-clause-low

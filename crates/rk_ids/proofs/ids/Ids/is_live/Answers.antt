@@ -1,5 +1,5 @@
 use Rattle.std.proofs.Common.{sym}
-use Rattle.rk_ids.proofs.Splits.{has_position}
+use Rattle.rk_ids.proofs.FreeIndexLemmas.{has_position}
 use Rattle.rk_ids.proofs.ids.Ids.is_live.Goals as goal
 
 pub returns-clause-lives : goal.returns-clause-lives

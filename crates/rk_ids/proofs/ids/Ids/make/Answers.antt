@@ -1,5 +1,5 @@
 use Rattle.std.proofs.Common.{◌≡◌, rules, arith, refl, length}
-use Rattle.rk_ids.proofs.Splits.{full_split, first_of, room_to_make, free_within, split_taken}
+use Rattle.rk_ids.proofs.FreeIndexLemmas.{full_split, first_of, room_to_make, free_within, split_taken}
 use Rattle.rk_ids.proofs.ids.Ids.make.Goals as goal
 
 pub returns-then-is_empty-clause-full : goal.returns-then-is_empty-clause-full

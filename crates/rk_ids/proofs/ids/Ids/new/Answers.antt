@@ -1,4 +1,4 @@
-use Rattle.rk_ids.proofs.Splits.{split_none}
+use Rattle.rk_ids.proofs.FreeIndexLemmas.{split_none}
 use Rattle.rk_ids.proofs.ids.Ids.new.Goals as goal
 
 pub invariant_of-result : goal.invariant_of-result

@@ -1,6 +1,6 @@
 use Rattle.std.proofs.Common.{arith, ◌-◌, ◌≤◌, ℕ, length}
 use Rattle.std.proofs.lemmas.List.{length-take}
-use Rattle.rk_io.proofs.Told.{read_front}
+use Rattle.rk_io.proofs.ToldLemmas.{read_front}
 use Rattle.rk_io.proofs.sure.SureSourceSource.read.Goals as goal
 
 pub returns-clause-bytes : goal.returns-clause-bytes

@@ -1,7 +1,7 @@
 use Rattle.std.proofs.Common.{ap}
 use Rattle.rk_model.specs.declared.state.Thread.{Thread}
 use Rattle.rk_parts.specs.Pieces.{plain_of}
-use Rattle.rk_kernel.proofs.Sleeping.{room_waiting}
+use Rattle.rk_kernel.proofs.TimerRoomLemmas.{room_waiting}
 use Rattle.rk_kernel.proofs.directives.outcomes.begin_limited.Goals as goal
 
 pub arm_timer-requires-clause-room : goal.arm_timer-requires-clause-room

@@ -3,9 +3,9 @@ use Rattle.rk_model.specs.declared.entry.Answer.TheVariants.{Done}
 use Rattle.rk_model.specs.declared.status.Status.TheVariants.{Successful}
 use Rattle.rk_model.specs.declared.ids.Class.TheVariants.{Task}
 use Rattle.rk_model.specs.State.{Plain, thread_at, put_thread}
-use Rattle.rk_model.specs.Tasks.{dormant_in}
+use Rattle.rk_model.specs.Directives.Tasks.{dormant_in}
 use Rattle.rk_parts.specs.Pieces.{plain_of}
-use Rattle.rk_kernel.proofs.Creating.{created}
+use Rattle.rk_kernel.proofs.DirectiveLemmas.ObjectsLemmas.{created}
 use Rattle.rk_kernel.proofs.directives.tasks.task_create.Goals as goal
 
 pub returns-in-Ok : goal.returns-in-Ok

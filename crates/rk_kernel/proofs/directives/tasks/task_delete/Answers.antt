@@ -1,8 +1,8 @@
 use Rattle.std.proofs.Common.{sym, ap}
-use Rattle.rk_model.specs.Tasks.{has_begun}
+use Rattle.rk_model.specs.Directives.Tasks.{has_begun}
 use Rattle.rk_parts.specs.Pieces.{plain_of}
-use Rattle.rk_kernel.proofs.Naming.{live_named}
-use Rattle.rk_kernel.proofs.Tasking.{named_lives}
+use Rattle.rk_kernel.proofs.NamesAgreeLemmas.{live_named}
+use Rattle.rk_kernel.proofs.DirectiveLemmas.TasksLemmas.{named_lives}
 use Rattle.rk_kernel.proofs.directives.tasks.task_delete.Goals as goal
 
 pub without_task-requires-clause-lives : goal.without_task-requires-clause-lives

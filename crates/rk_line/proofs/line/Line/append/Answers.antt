@@ -1,5 +1,5 @@
 use Rattle.std.proofs.Common.{arith}
-use Rattle.rk_line.proofs.Lines.{line_last, line_room, free}
+use Rattle.rk_line.proofs.LineLemmas.{line_last, line_room, free}
 use Rattle.rk_line.proofs.line.Line.append.Goals as goal
 
 pub push-requires : goal.push-requires

@@ -1,5 +1,5 @@
 use Rattle.std.proofs.Common.{arith, refl}
-use Rattle.rk_line.proofs.Lines.{there, reset, line_with_prio}
+use Rattle.rk_line.proofs.LineLemmas.{there, reset, line_with_prio}
 use Rattle.rk_line.proofs.line.Line.change.Goals as goal
 
 pub set-requires : goal.set-requires

@@ -1,5 +1,5 @@
 use Rattle.std.proofs.Common.{sym}
-use Rattle.rk_line.proofs.Lines.{has_position}
+use Rattle.rk_line.proofs.LineLemmas.{has_position}
 use Rattle.rk_line.proofs.line.Line.contains.Goals as goal
 
 pub returns : goal.returns

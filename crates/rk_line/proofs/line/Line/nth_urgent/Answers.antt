@@ -1,5 +1,5 @@
 use Rattle.std.proofs.Common.{sym}
-use Rattle.rk_line.proofs.Ranks.{ranked_found, ranked_further, ranked_past, nth_stands}
+use Rattle.rk_line.proofs.RankLemmas.{ranked_found, ranked_further, ranked_past, nth_stands}
 use Rattle.rk_line.proofs.line.Line.nth_urgent.Goals as goal
 
 pub returns-then-has_rank-clause-value : goal.returns-then-has_rank-clause-value

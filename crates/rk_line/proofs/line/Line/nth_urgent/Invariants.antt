@@ -1,5 +1,5 @@
 use Rattle.std.proofs.Common.{◌≡◌, take, drop}
-use Rattle.rk_model.specs.Lines.{ranked_from, nth_urgent}
+use Rattle.rk_model.specs.Scheduling.ReadyQueues.{ranked_from, nth_urgent}
 use Rattle.rk_line.specs.Places.{threads, prio_in}
 use Rattle.rk_line.proofs.line.Line.nth_urgent.Given as goal
 

@@ -1,5 +1,5 @@
 use Rattle.std.proofs.Common.{arith}
-use Rattle.rk_line.proofs.Lines.{line_first, line_room, free}
+use Rattle.rk_line.proofs.LineLemmas.{line_first, line_room, free}
 use Rattle.rk_line.proofs.line.Line.prepend.Goals as goal
 
 pub insert-requires : goal.insert-requires

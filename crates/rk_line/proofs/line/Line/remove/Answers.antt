@@ -1,5 +1,5 @@
 use Rattle.std.proofs.Common.{arith, refl}
-use Rattle.rk_line.proofs.Lines.{there, taken, line_without}
+use Rattle.rk_line.proofs.LineLemmas.{there, taken, line_without}
 use Rattle.rk_line.proofs.line.Line.remove.Goals as goal
 
 pub take-requires : goal.take-requires

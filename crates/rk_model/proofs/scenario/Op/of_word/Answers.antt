@@ -1,6 +1,6 @@
 use Rattle.std.proofs.Common.{◌≡◌, List, subst}
 use Rattle.rk_model.specs.declared.scenario.Op.{Op}
-use Rattle.rk_model.specs.Forms.{form_from, form_in}
+use Rattle.rk_model.specs.Text.Forms.{form_from, form_in}
 use Rattle.rk_model.proofs.scenario.Op.of_word.Goals as goal
 
 pub returns : goal.returns

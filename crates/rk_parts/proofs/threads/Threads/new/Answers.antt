@@ -1,5 +1,5 @@
 use Rattle.std.proofs.Common.{rules}
-use Rattle.rk_parts.proofs.Noting.{opened}
+use Rattle.rk_parts.proofs.MarkLemmas.{opened}
 use Rattle.rk_parts.proofs.threads.Threads.new.Goals as goal
 
 pub invariant_of-result : goal.invariant_of-result

@@ -1,0 +1,172 @@
+-- Work that is charged, processor by processor.
+use Rattle.std.proofs.Common.{◌≡◌, ℕ, zero, suc, ◌+◌, ◌<◌, ◌≤◌, List, [], ◌∷◌, Bool, true, false, cond, ◌==◌, ◌||◌, Option, Some, None, length, get_or, arith, refl, ap, sym, ◌∙◌}
+use Rattle.std.proofs.lemmas.Bool.{false≢true}
+use Rattle.std.proofs.lemmas.Bool.Decides.{nat_tests}
+use Rattle.std.proofs.lemmas.List.{ext_get_or}
+use Rattle.rk_model.specs.declared.scenario.Scenario.{Scenario}
+use Rattle.rk_model.specs.declared.entry.View.{View}
+use Rattle.rk_model.specs.declared.entry.View.TheVariants.{Idle, Spins, Runs}
+use Rattle.rk_model.specs.declared.state.Thread.{Thread}
+use Rattle.rk_model.specs.Lists.{nth, with_nth}
+use Rattle.rk_model.specs.State.{Plain, no_thread, thread_at}
+use Rattle.rk_model.specs.Scheduling.Priorities.{spins_in, spins}
+use Rattle.rk_model.specs.Scheduling.Running.{cpu_at, cpu_count, view_of, running, is_run_of, runs_from, runs_somewhere}
+use Rattle.rk_model.specs.Scheduling.Ticks.{charged, ticked, charge_from}
+use Rattle.rk_model.proofs.IndexLemmas.{nth-with_other, nth-with_same, length-with_nth}
+use Rattle.rk_parts.specs.Threads.{own_standing}
+use Rattle.rk_parts.specs.declared.core_state.Core.{Core}
+use Rattle.rk_parts.specs.Pieces.{plain_of}
+use Rattle.rk_parts.specs.Pinned.{stored}
+use Rattle.rk_kernel.specs.Manned.{RunOnce}
+use Rattle.rk_kernel.proofs.TickLemmas.{spins_alike, charged_steady, length-charge_from}
+
+-- a thread that is charged stands as before
+pub stands_charged : (s : Scenario) (thread : Thread) → own_standing (charged s thread) ≡ own_standing thread
+stands_charged s thread = charged_steady own_standing s thread (λ _ _ _ _. refl)
+
+-- a thread after the processors in front of one have been gone through: charged where one of them runs it
+abbrev charged_by : Plain → ℕ → ℕ → Thread
+charged_by k p t = cond (runs_from k t 0 p) (charged k.scenario (thread_at k t)) (thread_at k t)
+
+-- what is kept while the processors in front of one are gone through
+pub record IsCharged (k : Plain) (p : ℕ) (core old : Core) : Type 0 where
+  pub places : length core.threads.places ≡ length k.threads
+  pub threads : (t : ℕ) → nth no_thread core.threads.places t ≡ charged_by k p t
+  pub rest : plain_of core ≡ (let n : Plain = record k { threads = core.threads.places } in n)
+  pub kept : stored core ≡ stored old
+
+pub none_charged : (core : Core) → IsCharged (plain_of core) 0 core core
+none_charged core = record { places = refl; threads = λ t. refl; rest = refl; kept = refl }
+
+-- the last of some processors
+or_assoc : (a b d : Bool) → (a || (b || d)) ≡ ((a || b) || d)
+or_assoc true b d = refl
+or_assoc false b d = refl
+
+or_end : (a : Bool) → (a || false) ≡ a
+or_end true = refl
+or_end false = refl
+
+runs_last : (k : Plain) (t p n : ℕ) → runs_from k t p (n + 1) ≡ (runs_from k t p n || is_run_of t (running k (p + n)))
+runs_last k t p zero =
+    let one : 0 + 1 ≡ suc 0 = omega arith in
+    let here : p + 0 ≡ p = omega arith in
+    ap (runs_from k t p) one ∙ or_end (is_run_of t (running k p)) ∙ ap (λ q. is_run_of t (running k q)) (sym here)
+runs_last k t p (suc n) =
+    let more : suc n + 1 ≡ suc (n + 1) = omega arith in
+    let next : p + 1 + n ≡ p + suc n = omega arith in
+    ap (runs_from k t p) more ∙ ap (λ b. is_run_of t (running k p) || b) (runs_last k t (p + 1) n)
+    ∙ or_assoc (is_run_of t (running k p)) (runs_from k t (p + 1) n) (is_run_of t (running k (p + 1 + n)))
+    ∙ ap (λ q. (is_run_of t (running k p) || runs_from k t (p + 1) n) || is_run_of t (running k q)) next
+
+runs_to : (k : Plain) (t p : ℕ) → runs_from k t 0 (p + 1) ≡ (runs_from k t 0 p || is_run_of t (running k p))
+runs_to k t p = let e : 0 + p ≡ p = omega arith in runs_last k t 0 p ∙ ap (λ q. runs_from k t 0 p || is_run_of t (running k q)) e
+
+is_run : (t : ℕ) (view : View) → is_run_of t view ≡ true → view ≡ Runs t
+is_run t Idle h = absurd (false≢true h)
+is_run t (Spins u) h = absurd (false≢true h)
+is_run t (Runs u) h = let same : u ≡ t = grind (arith, nat_tests, h) in ap (λ v. Runs v) same
+
+-- a thread that a processor runs is run by none in front of it
+none_before : (k : Plain) (p u : ℕ) → RunOnce k → running k p ≡ Runs u → (n : ℕ) → n ≤ p → runs_from k u 0 n ≡ false
+none_before k p u once runs zero few = refl
+none_before k p u once runs (suc n) few =
+    let e : suc n ≡ n + 1 = omega arith in
+    ap (runs_from k u 0) e ∙ runs_to k u n ∙ by (runs_from k u 0 n) (is_run_of u (running k n)) refl (none_before k p u once runs n (omega (arith, few)))
+  where
+    by : (a b : Bool) → is_run_of u (running k n) ≡ b → a ≡ false → (a || b) ≡ false
+    by true b e h = h
+    by false true e h = let same = once n p u (is_run u (running k n) e) runs in absurd (omega (arith, same, few))
+    by false false e h = refl
+
+-- what a processor does doesn't depend on what was charged
+wait_charged : (k : Plain) (p t : ℕ) → (charged_by k p t).wait ≡ (thread_at k t).wait
+wait_charged k p t = by (runs_from k t 0 p) where
+  by : (b : Bool) → (cond b (charged k.scenario (thread_at k t)) (thread_at k t)).wait ≡ (thread_at k t).wait
+  by true = charged_steady (λ (x : Thread). x.wait) k.scenario (thread_at k t) (λ _ _ _ _. refl)
+  by false = refl
+
+view_charged : (k n : Plain) (o : Option ℕ) → ((t : ℕ) → (thread_at n t).wait ≡ (thread_at k t).wait) → view_of n o ≡ view_of k o
+view_charged k n None same = refl
+view_charged k n (Some t) same =
+    let spun : spins n t ≡ spins k t = ap (spins_in n) (same t) ∙ spins_alike k n (thread_at k t).wait in
+    ap (λ b. cond b (Spins t) (Runs t)) spun
+
+running_charged : (k : Plain) (p : ℕ) (core old : Core) (q : ℕ) → IsCharged k p core old → running (plain_of core) q ≡ running k q
+running_charged k p core old q is =
+    let n : Plain = record k { threads = core.threads.places } in
+    ap (λ (m : Plain). running m q) is.rest
+    ∙ view_charged k n (cpu_at k q) (λ t. ap (λ (x : Thread). x.wait) (is.threads t) ∙ wait_charged k p t)
+
+-- the thread of one processor more is charged, where the processor runs one
+pub one_charged : (k : Plain) (p u : ℕ) (core next old : Core) (thread : Thread) → RunOnce k → length k.threads ≡ 64 → IsCharged k p core old → Runs u ≡ running (plain_of core) p → 1 ≤ u → u ≤ 64 → thread ≡ charged core.scenario (nth no_thread core.threads.places u) →
+    plain_of next ≡ (let n : Plain = record (plain_of core) { threads = with_nth core.threads.places u thread } in n) → stored next ≡ stored core → IsCharged k (p + 1) next old
+one_charged k p u core next old thread once size is does low high made put kept =
+    let runs : running k p ≡ Runs u = sym (running_charged k p core old p is) ∙ sym does in
+    let places : next.threads.places ≡ with_nth core.threads.places u thread = ap (λ (n : Plain). n.threads) put in
+    let before : runs_from k u 0 p ≡ false = none_before k p u once runs p (omega arith) in
+    let was : nth no_thread core.threads.places u ≡ thread_at k u = is.threads u ∙ ap (λ b. cond b (charged k.scenario (thread_at k u)) (thread_at k u)) before in
+    let same : core.scenario ≡ k.scenario = ap (λ (n : Plain). n.scenario) is.rest in
+    let value : thread ≡ charged k.scenario (thread_at k u) = made ∙ ap (λ (s : Scenario). charged s (nth no_thread core.threads.places u)) same ∙ ap (charged k.scenario) was in
+    record {
+      places = ap (λ (ts : List Thread). length ts) places ∙ length-with_nth thread core.threads.places u ∙ is.places;
+      threads = λ t. (
+          let here : runs_from k t 0 (p + 1) ≡ (runs_from k t 0 p || (u == t)) = runs_to k t p ∙ ap (λ v. runs_from k t 0 p || is_run_of t v) runs in
+          ap (λ (ts : List Thread). nth no_thread ts t) places ∙ by t (u == t) refl value places ∙ ap (λ b. cond b (charged k.scenario (thread_at k t)) (thread_at k t)) (sym here));
+      rest = put ∙ ap (λ (n : Plain). (let m : Plain = record n { threads = with_nth core.threads.places u thread } in m)) is.rest ∙ ap (λ (ts : List Thread). (let m : Plain = record k { threads = ts } in m)) (sym places);
+      kept = kept ∙ is.kept;
+    }
+  where
+    or_true : (a : Bool) → (a || true) ≡ true
+    or_true true = refl
+    or_true false = refl
+
+    by : (t : ℕ) (b : Bool) → (u == t) ≡ b → thread ≡ charged k.scenario (thread_at k u) → next.threads.places ≡ with_nth core.threads.places u thread → nth no_thread (with_nth core.threads.places u thread) t ≡ cond (runs_from k t 0 p || b) (charged k.scenario (thread_at k t)) (thread_at k t)
+    by t true e value places =
+        let same : u ≡ t = grind (arith, nat_tests, e) in
+        ap (nth no_thread (with_nth core.threads.places u thread)) (sym same)
+        ∙ nth-with_same no_thread thread core.threads.places u (omega (arith, low)) (omega (arith, high, is.places, size))
+        ∙ value ∙ ap (λ v. charged k.scenario (thread_at k v)) same
+        ∙ ap (λ b. cond b (charged k.scenario (thread_at k t)) (thread_at k t)) (sym (or_true (runs_from k t 0 p)))
+    by t false e value places =
+        nth-with_other no_thread thread core.threads.places u t (λ q. false≢true (sym e ∙ grind (arith, nat_tests, q)))
+        ∙ is.threads t ∙ ap (λ b. cond b (charged k.scenario (thread_at k t)) (thread_at k t)) (sym (or_end (runs_from k t 0 p)))
+
+not_run : (t : ℕ) (view : View) → ((u : ℕ) → view ≡ Runs u → ⊥) → is_run_of t view ≡ false
+not_run t Idle none = refl
+not_run t (Spins u) none = refl
+not_run t (Runs u) none = absurd (none u refl)
+
+-- a processor that runs none changes nothing
+pub none_more_charged : (k : Plain) (p : ℕ) (core old : Core) (view : View) → IsCharged k p core old → view ≡ running (plain_of core) p → ((u : ℕ) → view ≡ Runs u → ⊥) → IsCharged k (p + 1) core old
+none_more_charged k p core old view is does none = record {
+  places = is.places;
+  threads = λ t. (
+      let same : view ≡ running k p = does ∙ running_charged k p core old p is in
+      let here : runs_from k t 0 (p + 1) ≡ runs_from k t 0 p = runs_to k t p ∙ ap (λ v. runs_from k t 0 p || is_run_of t v) (sym same) ∙ ap (λ b. runs_from k t 0 p || b) (not_run t view none) ∙ or_end (runs_from k t 0 p) in
+      is.threads t ∙ ap (λ b. cond b (charged k.scenario (thread_at k t)) (thread_at k t)) (sym here));
+  rest = is.rest;
+  kept = is.kept;
+}
+
+charge_at : (k : Plain) (a : ℕ) (ts : List Thread) (i : ℕ) → i < length ts → get_or (charge_from k a ts) i no_thread ≡ ticked k (a + i) (get_or ts i no_thread)
+charge_at k a [] i within = absurd (never i within) where
+  never : (i : ℕ) → i < 0 → ⊥
+  never i h = omega (arith, h)
+charge_at k a (x ∷ xs) zero within = let e : a + 0 ≡ a = omega arith in rw e refl
+charge_at k a (x ∷ xs) (suc i) within = let e : a + suc i ≡ a + 1 + i = omega arith in rw e (charge_at k (a + 1) xs i (omega (arith, within)))
+
+-- when all processors have been gone through, all threads that run are charged
+pub all_charged : (k : Plain) (p : ℕ) (core old : Core) → p ≡ cpu_count k → IsCharged k p core old → plain_of core ≡ (let n : Plain = record k { threads = charge_from k 1 k.threads } in n)
+unfolding ticked runs_somewhere
+all_charged k p core old all is =
+    let same : core.threads.places ≡ charge_from k 1 k.threads =
+    ext_get_or no_thread core.threads.places (charge_from k 1 k.threads) (is.places ∙ sym (length-charge_from k 1 k.threads))
+    (λ i h. is.threads (suc i) ∙ ap (λ n. charged_by k n (suc i)) all ∙ sym (let e : 1 + i ≡ suc i = omega arith in charge_at k 1 k.threads i (omega (arith, h, is.places)) ∙ ap (λ t. ticked k t (get_or k.threads i no_thread)) e)) in
+    is.rest ∙ ap (λ (ts : List Thread). (let n : Plain = record k { threads = ts } in n)) same
+
+-- a thread that a processor runs hasn't been charged
+pub uncharged : (k : Plain) (p u : ℕ) (core old : Core) → RunOnce k → IsCharged k p core old → Runs u ≡ running (plain_of core) p → nth no_thread core.threads.places u ≡ thread_at k u
+uncharged k p u core old once is does =
+    let runs : running k p ≡ Runs u = sym (running_charged k p core old p is) ∙ sym does in
+    is.threads u ∙ ap (λ b. cond b (charged k.scenario (thread_at k u)) (thread_at k u)) (none_before k p u once runs p (omega arith))

@@ -1,0 +1,3 @@
+pub mod TasksLemmas
+pub mod ObjectsLemmas
+pub mod ActionLemmas

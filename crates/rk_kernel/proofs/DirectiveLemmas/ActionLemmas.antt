@@ -1,0 +1,87 @@
+-- What a thread does that acts: its change is gentle, and where it refuses it changes the thread alone.
+use Rattle.std.proofs.Common.{◌≡◌, ℕ, ◌≤◌, true, false, Option, None, Some, IsSome, arith, refl, sym, ◌∙◌, ap, subst}
+use Rattle.std.proofs.lemmas.Bool.{false≢true}
+use Rattle.rk_model.specs.declared.scenario.Op.{Op}
+use Rattle.rk_model.specs.declared.scenario.Op.TheVariants.{TaskCreate, TaskIdent, TaskStart, TaskSuspend, TaskResume, TaskSetPriority, TaskDelete, TaskWakeAfter}
+use Rattle.rk_model.specs.declared.entry.Answer.{Answer}
+use Rattle.rk_model.specs.declared.entry.Reply.{Reply}
+use Rattle.rk_model.specs.declared.state.Thread.{Thread}
+use Rattle.rk_model.specs.State.{Plain, no_thread, thread_at, put_thread, op_at}
+use Rattle.rk_model.specs.Directives.Tasks.{has_begun}
+use Rattle.rk_model.specs.Directives.Outcomes.{Outcome, answer_of, changed, concluded, after_outcome}
+use Rattle.rk_model.specs.Steps.{directive, back, action_on, action}
+use Rattle.rk_kernel.specs.Calls.{IsActing, IsCaller}
+use Rattle.rk_kernel.specs.Sound.{IsGentle, is_in_call}
+use Rattle.rk_kernel.proofs.ThreadBoundsLemmas.{bounds_at, bounds_in, line_in}
+use Rattle.rk_model.specs.Limits.{AreRunnable}
+use Rattle.rk_kernel.proofs.GentleChangeLemmas.{gentle_same, gentle_put, gentle_go_on, Stays}
+use Rattle.rk_kernel.proofs.OutcomeLemmas.{IsFair, fair_changed, fair_after}
+use Rattle.rk_model.proofs.IndexLemmas.{nth-with_same}
+use Rattle.rk_kernel.proofs.DirectiveLemmas.TasksLemmas.{task_create_fair, task_ident_fair, task_start_fair, task_suspend_fair, task_resume_fair, task_set_priority_fair, task_delete_fair, task_exit_fair, task_wake_after_fair}
+
+-- each directive is fair
+line_fair : (k : Plain) (t : ℕ) (op : Op) → IsCaller k t → IsFair k t (directive k t (Some op))
+line_fair k t (TaskCreate name prio var) caller = task_create_fair k t name.bits prio caller
+line_fair k t (TaskIdent name var) caller = task_ident_fair k t name.bits caller
+line_fair k t (TaskStart id body) caller = task_start_fair k t id body caller
+line_fair k t (TaskSuspend id) caller = task_suspend_fair k t id caller
+line_fair k t (TaskResume id) caller = task_resume_fair k t id caller
+line_fair k t (TaskSetPriority id prio var) caller = task_set_priority_fair k t id prio caller
+line_fair k t (TaskDelete id) caller = task_delete_fair k t id caller
+line_fair k t (TaskWakeAfter n) caller = task_wake_after_fair k t n caller
+line_fair k t _ caller = task_exit_fair k t caller.acts caller.returns_not
+
+-- what an action owes to the state that settles: before the thread goes on, and after
+pub record IsDone (k : Plain) (t : ℕ) (o : Outcome) : Type 0 where
+  pub changed : IsGentle k (changed k o)
+  pub after : IsGentle k (after_outcome k t o)
+
+line_done : (k : Plain) (t : ℕ) (o : Option Op) → IsActing k t → (thread_at k t).finished ≡ None → (IsSome o → (thread_at k t).line ≤ 1000) → IsDone k t (directive k t o)
+line_done k t None acts returns_not line =
+    let fair = task_exit_fair k t acts returns_not in
+    record { changed = fair.does.1; after = fair.does.1 }
+line_done k t (Some op) acts returns_not line =
+    let caller : IsCaller k t = record { acts = acts; line = line refl; returns_not = returns_not } in
+    let fair = line_fair k t op caller in
+    record { changed = fair_changed k t (directive k t (Some op)) caller fair; after = fair_after k t (directive k t (Some op)) caller fair }
+
+-- a thread returns from a directive that waited
+back_done : (k : Plain) (t : ℕ) (reply : Reply) → IsActing k t → (thread_at k t).finished ≡ Some reply → IsDone k t (back k t reply)
+back_done k t reply acts returns =
+    let b = bounds_at k t acts.sound in
+    let thread : Thread = record (thread_at k t) { finished = None } in
+    let free : is_in_call thread.wait thread.finished ≡ false = rw acts.waits_not refl in
+    let begun : has_begun thread.life ≡ true = ap has_begun acts.started in
+    let low : thread.line ≤ 1000 = b.calling (rw (acts.waits_not, returns) refl) in
+    let gentle = gentle_put k k t thread (gentle_same k acts.sound) refl (λ w. w) begun begun (record { home = b.home; line = b.line; working = b.working; calling = λ w. absurd (false≢true (rw free at w)); apart = λ _. free; acts = b.acts; idle = λ _. free; computed = b.computed }) in
+    let here = nth-with_same no_thread thread k.threads t acts.low (omega (arith, acts.high, acts.sound.places)) in
+    let stays : Stays k (put_thread k t thread) t = record { gentle = gentle; lives = rw here begun; line = rw here low; free = rw here free } in
+    record { changed = gentle; after = gentle_go_on k (put_thread k t thread) t reply.out acts.sound stays }
+
+action_on_done : (k : Plain) (t : ℕ) (finished : Option Reply) → (thread_at k t).finished ≡ finished → IsActing k t → IsDone k t (action_on k t finished)
+action_on_done k t None e acts = line_done k t (op_at k.scenario (thread_at k t).body (thread_at k t).line) acts e (λ h. line_in k.scenario.bodies (thread_at k t).body (thread_at k t).line acts.sound.bodies.short h)
+action_on_done k t (Some reply) e acts = back_done k t reply acts e
+
+-- What a thread does that acts is gentle.
+pub action_done : (k : Plain) (t : ℕ) → IsActing k t → IsDone k t (action k t)
+unfolding action
+action_done k t acts = action_on_done k t (thread_at k t).finished refl acts
+
+-- each line of a body is fair
+pub op_fair : (k : Plain) (t : ℕ) → IsActing k t → (thread_at k t).finished ≡ None → (o : Option Op) → op_at k.scenario (thread_at k t).body (thread_at k t).line ≡ o → IsFair k t (directive k t o)
+op_fair k t acts returns_not None e = task_exit_fair k t acts returns_not
+op_fair k t acts returns_not (Some op) e =
+    let line = line_in k.scenario.bodies (thread_at k t).body (thread_at k t).line acts.sound.bodies.short (rw e refl) in
+    line_fair k t op (record { acts = acts; line = line; returns_not = returns_not })
+
+-- the answer of an action and what follows it lead to the state after its outcome
+pub followed : (k : Plain) (t : ℕ) (o : Outcome) (answer : Answer) (next after : Plain) → answer ≡ answer_of o → next ≡ changed k o → after ≡ concluded answer next t → after ≡ after_outcome k t o
+followed k t o answer next after told is ends = ends ∙ ap (λ (a : Answer). concluded a next t) told ∙ ap (λ (n : Plain). concluded (answer_of o) n t) is
+
+-- after an action, and before what follows it, no thread is behind its 1,001st line
+pub line_after : (k next : Plain) (t : ℕ) → IsActing k t → next ≡ changed k (action k t) → (thread_at next t).line ≤ 1001
+line_after k next t acts is = subst (λ (n : Plain). (thread_at n t).line ≤ 1001) (sym is) (bounds_in k (changed k (action k t)) t acts.sound (action_done k t acts).changed).line
+
+-- and the bodies are those that may be run
+pub bodies_after : (k next : Plain) (t : ℕ) → IsActing k t → next ≡ changed k (action k t) → AreRunnable next.scenario.bodies
+bodies_after k next t acts is = subst (λ (n : Plain). AreRunnable n.scenario.bodies) (sym is) (rw (action_done k t acts).changed.scenario acts.sound.bodies)

@@ -1,0 +1,173 @@
+-- Timers that are due fire one after another, and each firing keeps a state sound.
+use Rattle.std.proofs.Common.{◌≡◌, ℕ, zero, suc, ◌+◌, ◌<◌, ◌≤◌, List, [], ◌∷◌, Bool, true, false, cond, eqb, not, None, Some, length, get_or, arith, refl, ap, sym, ◌∙◌, subst}
+use Rattle.std.specs.List.{slice_set}
+use Rattle.std.proofs.lemmas.List.{set-get_or, get_or-set_same, length-set}
+use Rattle.std.proofs.lemmas.Bool.Decides.{nat_tests}
+use Rattle.rk_model.specs.declared.settling.Move.{Move}
+use Rattle.rk_model.specs.declared.state.Armed.{Armed}
+use Rattle.rk_model.specs.declared.state.Armer.{Armer}
+use Rattle.rk_model.specs.declared.state.Armer.TheVariants.{Thread as OfThread}
+use Rattle.rk_model.specs.State.{Plain, ClusterState, no_cluster, thread_at, cluster_at}
+use Rattle.rk_model.specs.Scheduling.Priorities.{standings}
+use Rattle.rk_parts.specs.Settled.{settled_from}
+use Rattle.rk_parts.proofs.SettlingLemmas.{settle_each}
+use Rattle.rk_model.specs.Scheduling.Timers.{is_same, times_armed, without_timer, due_at, is_due, without_due, take_due, cancel}
+use Rattle.rk_model.specs.Scheduling.Ticks.{rung, expire, fire, fire_each}
+use Rattle.rk_parts.specs.Firing.{head_of, due_now, FiresFirst}
+use Rattle.rk_kernel.specs.Sound.{IsSound, IsGentle, waits_in, is_waiting}
+use Rattle.rk_parts.proofs.BooleanLemmas.{equal_test, and_front, and_back}
+use Rattle.rk_kernel.proofs.ThreadBoundsLemmas.{bounds_at}
+use Rattle.rk_kernel.proofs.GentleChangeLemmas.{gentle_same, gentle_fewer, gentle_end_wait}
+use Rattle.rk_kernel.proofs.TimerLemmas.{timers_of, times-without_due}
+
+no_due : (tick : ℕ) (timers : List Armed) → due_at tick timers ≡ [] → without_due tick timers ≡ timers
+no_due tick [] none = refl
+no_due tick (timer ∷ timers) none = no_due_by tick timer timers (is_due tick timer) refl none (no_due tick timers) where
+  no_due_by : (tick : ℕ) (timer : Armed) (timers : List Armed) (b : Bool) → is_due tick timer ≡ b → cond b (timer ∷ due_at tick timers) (due_at tick timers) ≡ [] → (due_at tick timers ≡ [] → without_due tick timers ≡ timers) → cond b timers (timer ∷ without_due tick timers) ≡ timer ∷ timers
+  no_due_by tick timer timers true e none more = let no : ⊥ = cc in absurd no
+  no_due_by tick timer timers false e none more = ap (λ ts. timer ∷ ts) (more none)
+
+-- where no timer is due, to take out the first that is due changes nothing
+pub take_none : (k : Plain) (c : ℕ) → due_now k c ≡ [] → take_due k c ≡ k
+take_none k c none =
+    let same = no_due k.present (cluster_at k c).timers none in
+    ap (λ (ts : List Armed). record k { clusters = slice_set k.clusters c (record (cluster_at k c) { timers = ts }) }) same
+    ∙ ap (λ (cs : List ClusterState). record k { clusters = cs }) (set-get_or k.clusters c no_cluster)
+
+-- the timers that are due behind the first of them
+rest_due : (tick : ℕ) (timers xs : List Armed) (x : Armed) → due_at tick timers ≡ x ∷ xs → due_at tick (without_due tick timers) ≡ xs
+rest_due tick [] xs x due = let no : ⊥ = cc in absurd no
+rest_due tick (timer ∷ timers) xs x due = by tick timer timers xs x (is_due tick timer) refl due (rest_due tick timers xs x) where
+  by : (tick : ℕ) (timer : Armed) (timers xs : List Armed) (x : Armed) (b : Bool) → is_due tick timer ≡ b → cond b (timer ∷ due_at tick timers) (due_at tick timers) ≡ x ∷ xs → (due_at tick timers ≡ x ∷ xs → due_at tick (without_due tick timers) ≡ xs) → due_at tick (cond b timers (timer ∷ without_due tick timers)) ≡ xs
+  by tick timer timers xs x true e due more = cc
+  by tick timer timers xs x false e due more = rw e (more due)
+
+-- of the timers of the thread whose timer fires one is gone
+one_gone : (tick t : ℕ) (timers xs : List Armed) (x : Armed) → x.who ≡ OfThread t → due_at tick timers ≡ x ∷ xs → times_armed (OfThread t) (without_due tick timers) + 1 ≡ times_armed (OfThread t) timers
+one_gone tick t [] xs x whose due = let no : ⊥ = cc in absurd no
+one_gone tick t (timer ∷ timers) xs x whose due = by (is_due tick timer) due (one_gone tick t timers xs x whose) where
+  by : (b : Bool) → cond b (timer ∷ due_at tick timers) (due_at tick timers) ≡ x ∷ xs → (due_at tick timers ≡ x ∷ xs → times_armed (OfThread t) (without_due tick timers) + 1 ≡ times_armed (OfThread t) timers) →
+      times_armed (OfThread t) (cond b timers (timer ∷ without_due tick timers)) + 1 ≡ times_armed (OfThread t) (timer ∷ timers)
+  by true due more =
+      let same : timer ≡ x = cc in
+      let test : is_same timer.who (OfThread t) ≡ true = ap (λ (y : Armed). is_same y.who (OfThread t)) same ∙ ap (λ (w : Armer). is_same w (OfThread t)) whose ∙ equal_test t t refl in
+      rw test (omega arith)
+  by false due more = omega (arith, more due)
+
+-- settling leaves the timers alone
+timers-settled_from : (move : ℕ → ℕ → Move) (key : ℕ → ℕ → ℕ) (n c : ℕ) (clusters : List ClusterState) (i : ℕ) → (get_or (settled_from move key n c clusters) i no_cluster).timers ≡ (get_or clusters i no_cluster).timers
+timers-settled_from move key n c [] i = refl
+timers-settled_from move key n c (cluster ∷ clusters) zero = refl
+timers-settled_from move key n c (cluster ∷ clusters) (suc i) = timers-settled_from move key n (c + 1) clusters i
+
+-- to cancel the timer of one that has none changes nothing
+without_none : (who : Armer) (timers : List Armed) → times_armed who timers ≡ 0 → without_timer who timers ≡ timers
+without_none who [] none = refl
+without_none who (timer ∷ timers) none = by (is_same timer.who who) none (without_none who timers) where
+  by : (b : Bool) → cond b 1 0 + times_armed who timers ≡ 0 → (times_armed who timers ≡ 0 → without_timer who timers ≡ timers) → cond (not b) (timer ∷ without_timer who timers) (without_timer who timers) ≡ timer ∷ timers
+  by true none more = absurd (omega (arith, none))
+  by false none more = ap (λ ts. timer ∷ ts) (more (omega (arith, none)))
+
+cancel_none : (k : Plain) (c : ℕ) (who : Armer) → times_armed who (cluster_at k c).timers ≡ 0 → cancel k c who ≡ k
+cancel_none k c who none =
+    ap (λ (ts : List Armed). record k { clusters = slice_set k.clusters c (record (cluster_at k c) { timers = ts }) }) (without_none who (cluster_at k c).timers none)
+    ∙ ap (λ (cs : List ClusterState). record k { clusters = cs }) (set-get_or k.clusters c no_cluster)
+
+-- a thread whose timer fires: it waits in that cluster, and has no other timer there
+record Fires (k : Plain) (c t : ℕ) : Type 0 where
+  home : (thread_at k t).home ≡ c
+  waits : is_waiting (thread_at k t).wait ≡ true
+  alone : times_armed (OfThread t) (without_due k.present (cluster_at k c).timers) ≡ 0
+
+fires_by : (n m : ℕ) (b : Bool) → n + 1 ≡ m → m ≤ cond b 1 0 → (b ≡ true) × (n ≡ 0)
+fires_by n m true e few = (refl, omega (arith, e, few))
+fires_by n m false e few = absurd (omega (arith, e, few))
+
+fires : (k : Plain) (c t : ℕ) (xs : List Armed) (x : Armed) → IsSound k → c < length k.clusters → due_now k c ≡ x ∷ xs → x.who ≡ OfThread t → Fires k c t
+fires k c t xs x sound within due whose =
+    let f = fires_by _ _ (waits_in k.threads c t) (one_gone k.present t (cluster_at k c).timers xs x whose due) (timers_of k c sound within t) in
+    let at_home = and_front (eqb (thread_at k t).home c) (is_waiting (thread_at k t).wait) f.0 in
+    record { home = grind (arith, nat_tests, at_home); waits = and_back (eqb (thread_at k t).home c) (is_waiting (thread_at k t).wait) f.0; alone = f.1 }
+
+taken_timers : (k : Plain) (c : ℕ) → c < length k.clusters → (cluster_at (take_due k c) c).timers ≡ without_due k.present (cluster_at k c).timers
+taken_timers k c within = ap (λ (y : ClusterState). y.timers) (get_or-set_same k.clusters c (record (cluster_at k c) { timers = without_due k.present (cluster_at k c).timers }) no_cluster within)
+
+-- a timer that fires has been taken out, and its cluster has no others than before
+rung_clusters : (k : Plain) (c : ℕ) (xs : List Armed) (x : Armed) (who : Armer) → x.who ≡ who → IsSound k → c < length k.clusters → due_now k c ≡ x ∷ xs → (rung (take_due k c) who).clusters ≡ (take_due k c).clusters
+rung_clusters k c xs x (OfThread t) whose sound within due =
+    let f = fires k c t xs x sound within due whose in
+    let m = take_due k c in
+    let none : times_armed (OfThread t) (cluster_at m (thread_at k t).home).timers ≡ 0 = ap (λ d. times_armed (OfThread t) (cluster_at m d).timers) f.home ∙ ap (times_armed (OfThread t)) (taken_timers k c within) ∙ f.alone in
+    ap (λ (n : Plain). n.clusters) (cancel_none m (thread_at k t).home (OfThread t) none)
+
+-- After the first timer that is due has fired, the others are due.
+pub due_now-fire : (k : Plain) (c : ℕ) (xs : List Armed) (x : Armed) → IsSound k → c < length k.clusters → due_now k c ≡ x ∷ xs → due_now (fire k c x) c ≡ xs
+due_now-fire k c xs x sound within due =
+    let next = expire k c x.who in
+    let settled : (cluster_at (fire k c x) c).timers ≡ (cluster_at next c).timers = ap (λ (n : Plain). (cluster_at n c).timers) (settle_each (standings k) next []) ∙ timers-settled_from _ _ (length next.threads) 0 next.clusters c in
+    let here : (cluster_at next c).timers ≡ without_due k.present (cluster_at k c).timers = ap (λ (cs : List ClusterState). (get_or cs c no_cluster).timers) (rung_clusters k c xs x x.who refl sound within due) ∙ taken_timers k c within in
+    ap (due_at (fire k c x).present) (settled ∙ here) ∙ ap (λ n. due_at n (without_due k.present (cluster_at k c).timers)) (rung_present (take_due k c) x.who) ∙ rest_due k.present (cluster_at k c).timers xs x due
+  where
+    rung_present : (m : Plain) (who : Armer) → (rung m who).present ≡ m.present
+    rung_present m (OfThread t) = refl
+
+-- A timer that fires changes little.
+pub expire_gentle : (k : Plain) (c : ℕ) (xs : List Armed) (x : Armed) → IsSound k → c < length k.clusters → due_now k c ≡ x ∷ xs → IsGentle k (expire k c x.who)
+expire_gentle k c xs x sound within due = by x.who refl where
+  by : (who : Armer) → x.who ≡ who → IsGentle k (rung (take_due k c) who)
+  by (OfThread t) whose =
+      let timers = (cluster_at k c).timers in
+      let taken = gentle_fewer k k c (without_due k.present timers) (gentle_same k sound) (λ u. times-without_due k.present u timers) in
+      gentle_end_wait k (take_due k c) t _ sound taken (fires k c t xs x sound within due whose).waits
+
+-- the timers behind the first
+abbrev pub rest_of : List Armed → List Armed
+rest_of [] = []
+rest_of (timer ∷ timers) = timers
+
+head_none : (xs : List Armed) → None ≡ head_of xs → xs ≡ []
+head_none [] e = refl
+head_none (x ∷ xs) e = let no : ⊥ = cc in absurd no
+
+pub head_some : (xs : List Armed) (x : Armed) → Some x ≡ head_of xs → xs ≡ x ∷ rest_of xs
+head_some [] x e = let no : ⊥ = cc in absurd no
+head_some (y ∷ ys) x e = let same : x ≡ y = cc in ap (λ z. z ∷ ys) (sym same)
+
+-- no timer was due, and nothing changed
+pub unchanged : (k next : Plain) (c : ℕ) → None ≡ head_of (due_now k c) → next ≡ take_due k c → next ≡ k
+unchanged k next c none taken = taken ∙ take_none k c (head_none (due_now k c) none)
+
+pub fires_none : (k next : Plain) (c : ℕ) (fired : Bool) → None ≡ head_of (due_now k c) → next ≡ take_due k c → fired ≡ false → FiresFirst c (due_now k c) k fired next
+fires_none k next c fired none taken kept = subst (λ (xs : List Armed). FiresFirst c xs k fired next) (sym (head_none (due_now k c) none)) (kept, unchanged k next c none taken)
+
+pub fires_some : (k next : Plain) (c : ℕ) (fired : Bool) (x : Armed) → Some x ≡ head_of (due_now k c) → next ≡ fire k c x → fired ≡ true → FiresFirst c (due_now k c) k fired next
+fires_some k next c fired x some done told = subst (λ (xs : List Armed). FiresFirst c xs k fired next) (sym (head_some (due_now k c) x some)) (told, done)
+
+-- the timer was taken out, and has fired
+pub expired : (k taken after : Plain) (c : ℕ) (x : Armed) → taken ≡ take_due k c → after ≡ rung taken x.who → after ≡ expire k c x.who
+expired k taken after c x is rings = rings ∙ ap (λ (n : Plain). rung n x.who) is
+
+-- where a timer is taken out each thread has a home still
+pub homes_taken : (k taken : Plain) (c : ℕ) → IsSound k → taken ≡ take_due k c → (t : ℕ) → (thread_at taken t).home < length taken.clusters
+homes_taken k taken c sound is t =
+    let home = (bounds_at k t sound).home in
+    let size = length-set k.clusters c (record (cluster_at k c) { timers = without_due k.present (cluster_at k c).timers }) in
+    let here : (thread_at (take_due k c) t).home < length (take_due k c).clusters = rw size home in
+    subst (λ (n : Plain). (thread_at n t).home < length n.clusters) (sym is) here
+
+-- one timer fewer is due
+pub fewer_due : (k next : Plain) (c : ℕ) → IsSound k → c < length k.clusters → FiresFirst c (due_now k c) k true next → (due_now k c ≡ [] → ⊥) × (length (due_now next c) < length (due_now k c)) × (fire_each next c (due_now next c) ≡ fire_each k c (due_now k c))
+fewer_due k next c sound within fires = by k next c (due_now k c) refl sound within fires where
+  by : (k next : Plain) (c : ℕ) (xs : List Armed) → due_now k c ≡ xs → IsSound k → c < length k.clusters → FiresFirst c xs k true next → (due_now k c ≡ [] → ⊥) × (length (due_now next c) < length (due_now k c)) × (fire_each next c (due_now next c) ≡ fire_each k c (due_now k c))
+  by k next c [] e sound within fires = let no : ⊥ = cc in absurd no
+  by k next c (x ∷ xs) e sound within fires =
+      let left : due_now next c ≡ xs = ap (λ (n : Plain). due_now n c) fires.1 ∙ due_now-fire k c xs x sound within e in
+      let some : due_now k c ≡ [] → ⊥ = λ none. let no : x ∷ xs ≡ [] = sym e ∙ none in cc in
+      (some, rw (left, e) (omega arith), rw (left, e) (ap (λ (n : Plain). fire_each n c xs) fires.1))
+
+-- where none is due any more, all have fired
+pub none_due : (k next : Plain) (c : ℕ) → FiresFirst c (due_now k c) k false next → next ≡ fire_each k c (due_now k c)
+none_due k next c fires = by k next c (due_now k c) fires where
+  by : (k next : Plain) (c : ℕ) (xs : List Armed) → FiresFirst c xs k false next → next ≡ fire_each k c xs
+  by k next c [] fires = fires.1
+  by k next c (x ∷ xs) fires = let no : ⊥ = cc in absurd no

@@ -1,0 +1,208 @@
+-- The opening state is sound: it is the state with no task yet, changed gently and settled.
+use Rattle.std.proofs.Common.{◌≡◌, add-one, ℕ, zero, suc, ◌+◌, ◌<◌, ◌≤◌, List, [], ◌∷◌, false, ◌==◌, Option, None, length, get_or, length-append, length-take, ◌++◌, take, drop, map, replicate, arith, refl, ap, sym, ◌∙◌, append_assoc}
+use Rattle.std.specs.List.{AllByRecursion, range_with_len, slice_set}
+use Rattle.std.proofs.lemmas.List.{length-replicate, length-map, map-append, take_more, drop_more, map_push}
+use Rattle.std.proofs.lemmas.List.Elements.{All-from_recursion}
+use Rattle.std.proofs.lemmas.Bool.{false≢true}
+use Rattle.rk_model.specs.declared.scenario.Scenario.{Scenario}
+use Rattle.rk_model.specs.declared.scenario.Init.{Init}
+use Rattle.rk_model.specs.declared.state.Life.TheVariants.{Started}
+use Rattle.rk_model.specs.declared.state.Thread.{Thread}
+use Rattle.rk_parts.specs.declared.core_state.ClusterPart.{ClusterPart}
+use Rattle.rk_parts.specs.Pieces.{cluster_of, clusters_of}
+use Rattle.rk_model.specs.Lists.{nth, with_nth, times}
+use Rattle.rk_cluster.specs.Clusters.{Cluster, empty_cluster}
+use Rattle.rk_model.specs.Scheduling.Settling.{belongs}
+use Rattle.rk_parts.specs.declared.core_state.Core.{Core}
+use Rattle.rk_parts.specs.Pinned.{linings, key_of, AllKeyed, AreNumbered, AllHeld, CanSettle}
+use Rattle.rk_parts.proofs.StandingLemmas.{standings_own}
+use Rattle.rk_parts.proofs.MarkLemmas.{nth_replicate}
+use Rattle.rk_kernel.specs.Made.{made_from}
+use Rattle.rk_model.specs.State.{Plain, ClusterState, no_thread, thread_at}
+use Rattle.rk_model.specs.Scheduling.Priorities.{is_eligible, standings, no_standing}
+use Rattle.rk_model.specs.Scheduling.ReadyQueues.{has_cpu}
+use Rattle.rk_model.specs.Scheduling.Running.{all_cpus}
+use Rattle.rk_model.specs.Histories.{begun, places, free_cluster, vacant, started, opening}
+use Rattle.rk_model.specs.Text.Scenarios.{cpus_in}
+use Rattle.rk_model.specs.Limits.{IsWithinLimits}
+use Rattle.rk_kernel.proofs.InitNamesLemmas.{named_vacant, named_begun}
+use Rattle.rk_kernel.proofs.ThreadBoundsLemmas.{none_bounds, arrived_bounds}
+use Rattle.rk_kernel.specs.Sound.{stands, own, AllSound, IsInBounds, IsSound, AllTimed, IsGentle}
+use Rattle.rk_model.proofs.CountLemmas.{times-filter}
+use Rattle.rk_parts.proofs.BooleanLemmas.{and_false}
+use Rattle.rk_kernel.proofs.TimerLemmas.{keeps_same}
+use Rattle.rk_kernel.proofs.SoundSettlingLemmas.{sound_settled}
+
+pub length-places : (n : ℕ) (threads : List Thread) → length (places n threads) ≡ n
+length-places zero threads = refl
+length-places (suc n) [] = omega (arith, length-places n [])
+length-places (suc n) (thread ∷ threads) = omega (arith, length-places n threads)
+
+no_place_from : (n i : ℕ) → get_or (places n []) i no_thread ≡ no_thread
+no_place_from zero i = refl
+no_place_from (suc n) zero = refl
+no_place_from (suc n) (suc i) = no_place_from n i
+
+-- where there are places alone there is no thread
+no_place : (n t : ℕ) → nth no_thread (places n []) t ≡ no_thread
+no_place n zero = refl
+no_place n (suc i) = no_place_from n i
+
+pub never_eligible : (k : Plain) (t : ℕ) → thread_at k t ≡ no_thread → is_eligible k t ≡ false
+unfolding is_eligible
+never_eligible k t none = rw none refl
+
+never_stands : (k : Plain) (c t : ℕ) → is_eligible k t ≡ false → stands k c t ≡ false
+unfolding stands
+never_stands k c t none = rw none (and_false ((thread_at k t).home == c))
+
+none_own : (k : Plain) (c t : ℕ) → is_eligible k t ≡ false → 0 ≡ times t (own k c)
+none_own k c t none = sym (times-filter (stands k c) t (range_with_len 1 (length k.threads)) ∙ (rw (never_stands k c t none) refl))
+
+none_seated : (m t : ℕ) → has_cpu (replicate m None) t ≡ false
+none_seated zero t = refl
+none_seated (suc m) t = none_seated m t
+
+-- free clusters are sound where there is no thread
+all_free : (k : Plain) (c : ℕ) (counts : List ℕ) → ((t : ℕ) → thread_at k t ≡ no_thread) → cpus_in counts ≤ 8 → AllSound k c (map free_cluster counts)
+all_free k c [] none few = tt
+all_free k c (m ∷ counts) none few = (
+  record {
+    few_cpus = rw length-replicate (omega arith);
+    line = λ t. none_own k c t (never_eligible k t (none t));
+    manned = λ t h. absurd (false≢true (sym (none_seated m t) ∙ h));
+    timers = λ t. omega arith;
+  },
+  all_free k (c + 1) counts none (omega arith),
+)
+
+-- free clusters have no timers
+all_untimed : (threads : List Thread) (c : ℕ) (counts : List ℕ) → AllTimed threads c (map free_cluster counts)
+all_untimed threads c [] = tt
+all_untimed threads c (m ∷ counts) = (λ t. omega arith, all_untimed threads (c + 1) counts)
+
+cpus-free : (counts : List ℕ) → length (all_cpus (map free_cluster counts)) ≡ cpus_in counts
+cpus-free [] = refl
+cpus-free (m ∷ counts) = omega (arith, length-append (replicate m (let n : Option ℕ = None in n)) (all_cpus (map free_cluster counts)), length-replicate {A = Option ℕ}, cpus-free counts)
+
+-- a thread of an init line is within its bounds
+bounds_begun : (s : Scenario) (init : Init) (m : ℕ) → IsWithinLimits s → init.cluster < m → IsInBounds s m 0 (begun s init)
+bounds_begun s init m within home = arrived_bounds s m 0 (record no_thread { life = Started; home = init.cluster; base = init.prio; body = init.body }) 1 within.bodies home (omega arith) (omega arith) refl
+
+all_begun : (s : Scenario) (m n : ℕ) (inits : List Init) → IsWithinLimits s → 0 < m → AllByRecursion (λ (init : Init). init.cluster < m) inits → AllByRecursion (IsInBounds s m 0) (places n (map (begun s) inits))
+all_begun s m zero inits within some homes = tt
+all_begun s m (suc n) [] within some homes = (none_bounds s m 0 some, all_begun s m n [] within some tt)
+all_begun s m (suc n) (init ∷ inits) within some homes = (bounds_begun s init m within homes.0, all_begun s m n inits within some homes.1)
+
+pub sound_vacant : (s : Scenario) → IsWithinLimits s → IsSound (vacant s)
+sound_vacant s within =
+    let size : length (vacant s).clusters ≡ length s.clusters = length-map s.clusters free_cluster in
+    record {
+      places = length-places 64 [];
+      few_clusters = rw size within.few_clusters;
+      some_cluster = rw size within.some_cluster;
+      few_cpus = rw (cpus-free s.clusters) within.few_cpus;
+      horizon = within.horizon;
+      present = omega arith;
+      bodies = within.bodies;
+      threads = rw size (All-from_recursion (IsInBounds s (length s.clusters) 0) (places 64 []) (all_begun s (length s.clusters) 64 [] within within.some_cluster tt));
+      clusters = all_free (vacant s) 0 s.clusters (no_place 64) within.few_cpus;
+      named = named_vacant s;
+    }
+
+pub gentle_started : (s : Scenario) → IsWithinLimits s → IsGentle (vacant s) (started s)
+gentle_started s within =
+    let size : length (vacant s).clusters ≡ length s.clusters = length-map s.clusters free_cluster in
+    let threads = places 64 (map (begun s) s.inits) in
+    record {
+      scenario = refl;
+      present = refl;
+      places = length-places 64 (map (begun s) s.inits) ∙ sym (length-places 64 []);
+      threads = rw size (All-from_recursion (IsInBounds s (length s.clusters) 0) threads (all_begun s (length s.clusters) 64 s.inits within within.some_cluster within.homes));
+      lines = keeps_same (vacant s).clusters;
+      timers = all_untimed threads 0 s.clusters;
+      named = named_begun s s.inits within.few_inits;
+    }
+
+-- The opening state is sound.
+pub sound_opening : (s : Scenario) → IsWithinLimits s → IsSound (opening s)
+sound_opening s within = sound_settled (vacant s) (started s) [] (sound_vacant s within) (gentle_started s within)
+
+-- one more of the first places has a thread
+pub places-push : (n : ℕ) (threads : List Thread) (thread : Thread) (at : ℕ) → at ≡ length threads → at < n → slice_set (places n threads) at thread ≡ places n (threads ++ thread ∷ [])
+places-push zero threads thread at e within = absurd (never at within) where
+  never : (at : ℕ) → at < 0 → ⊥
+  never at h = omega (arith, h)
+places-push (suc n) [] thread at e within = rw e refl
+places-push (suc n) (x ∷ xs) thread zero e within = absurd (omega (arith, e))
+places-push (suc n) (x ∷ xs) thread (suc at) e within = ap (λ ts. x ∷ ts) (places-push n xs thread at (omega (arith, e)) (omega (arith, within)))
+
+-- the index behind a number of places
+with_next : (threads : List Thread) (at : ℕ) (thread : Thread) → with_nth threads (at + 1) thread ≡ slice_set threads at thread
+with_next threads at thread = let e : at + 1 ≡ suc at = omega arith in rw e refl
+
+-- one more init line's task is started
+pub started_more : (s : Scenario) (threads threads' : List Thread) (thread : Thread) (init : Init) (at : ℕ) → at < length s.inits → length s.inits ≤ 64 → init ≡ get_or s.inits at init → thread ≡ begun s init → threads' ≡ with_nth threads (at + 1) thread → threads ≡ places 64 (map (begun s) (take at s.inits)) → threads' ≡ places 64 (map (begun s) (take (at + 1) s.inits))
+started_more s threads threads' thread init at within few is made set told =
+    let front = map (begun s) (take at s.inits) in
+    let size : at ≡ length front = omega (arith, length-map (take at s.inits) (begun s), length-take at s.inits) in
+    let more : map (begun s) (take (at + 1) s.inits) ≡ front ++ begun s init ∷ [] =
+    ap (map (begun s)) (take_more s.inits at init within) ∙ map-append (begun s) (take at s.inits) (get_or s.inits at init ∷ []) ∙ ap (λ x. front ++ begun s x ∷ []) (sym is) in
+    set ∙ with_next threads at thread ∙ ap (λ ts. slice_set ts at thread) told ∙ ap (slice_set (places 64 front) at) made ∙ places-push 64 front (begun s init) at size (omega arith) ∙ ap (places 64) (sym more)
+
+-- the processors of the clusters in front of one and its own are at most those of all
+pub first_within : (counts : List ℕ) (i : ℕ) → i < length counts → cpus_in (take i counts) + get_or counts i 0 ≤ cpus_in counts
+first_within [] i within = absurd (omega arith)
+first_within (m ∷ counts) zero within = omega arith
+first_within (m ∷ counts) (suc i) within = omega (arith, first_within counts i (omega arith))
+
+pub first_more : (counts : List ℕ) (i first : ℕ) → i < length counts → first ≡ cpus_in (take i counts) → first + get_or counts i 0 ≡ cpus_in (take (i + 1) counts)
+first_more counts i first within is = rw (add-one, is) (by counts i within) where
+  by : (counts : List ℕ) (i : ℕ) → i < length counts → cpus_in (take i counts) + get_or counts i 0 ≡ cpus_in (take (suc i) counts)
+  by [] i within = absurd (omega arith)
+  by (m ∷ counts) zero within = omega arith
+  by (m ∷ counts) (suc i) within = omega (arith, by counts i (omega arith))
+
+-- one cluster more is made
+pub made_more : (counts : List ℕ) (i : ℕ) (parts next : List ClusterPart) (part : ClusterPart) → i < length counts → next ≡ parts ++ part ∷ [] → cluster_of part ≡ free_cluster (get_or counts i 0) → clusters_of parts ≡ map free_cluster (take i counts) → clusters_of next ≡ map free_cluster (take (i + 1) counts)
+made_more counts i parts next part within push is told =
+    let more : take (i + 1) counts ≡ take i counts ++ get_or counts i 0 ∷ [] = take_more counts i 0 within in
+    ap (λ (ps : List ClusterPart). clusters_of ps) push ∙ map-append cluster_of parts (part ∷ []) ∙ (rw (told, is) refl) ∙ sym (ap (map free_cluster) more ∙ map-append free_cluster (take i counts) (get_or counts i 0 ∷ []))
+
+-- one cluster more is stored
+pub lined_more : (counts : List ℕ) (at first : ℕ) (parts next : List ClusterPart) (part : ClusterPart) (all : List Cluster) → at < length counts → next ≡ parts ++ part ∷ [] → part.lined ≡ empty_cluster at first (get_or counts at 0) →
+    linings parts ++ made_from at first (drop at counts) ≡ all → linings next ++ made_from (at + 1) (first + get_or counts at 0) (drop (at + 1) counts) ≡ all
+lined_more counts at first parts next part all within more made told =
+    let d = drop_more counts at 0 within in
+    let m : linings (parts ++ part ∷ []) ≡ linings parts ++ part.lined ∷ [] = map_push (λ (p : ClusterPart). p.lined) parts part in
+    rw (more, m, append_assoc, made) (rw d at told)
+
+-- clusters that were made are numbered,
+pub numbered_made : (c p : ℕ) (counts : List ℕ) → AreNumbered c p (made_from c p counts)
+numbered_made c p [] = tt
+numbered_made c p (count ∷ counts) =
+    let size : length (empty_cluster c p count).cpus ≡ count = length-replicate count None in
+    (refl, refl, rw size (numbered_made (c + 1) (p + count) counts))
+
+-- and their lines have no place
+pub keyed_made : (key : ℕ → ℕ) (c p : ℕ) (counts : List ℕ) → AllKeyed key (made_from c p counts)
+keyed_made key c p [] = tt
+keyed_made key c p (count ∷ counts) = (tt, keyed_made key (c + 1) (p + count) counts)
+
+-- nor any thread, where none belongs there
+pub held_free : (n c : ℕ) (counts : List ℕ) → AllHeld (replicate n no_standing) c (map free_cluster counts)
+held_free n c [] = tt
+held_free n c (m ∷ counts) = (λ t. ap (belongs c) (sym (nth_replicate no_standing n t)), held_free n (c + 1) counts)
+
+-- no thread stands where there is none
+pub standings_vacant : (s : Scenario) → standings (vacant s) ≡ replicate 64 no_standing
+standings_vacant s = standings_own (vacant s)
+
+-- the pieces with the clusters of an opening, and with nobody noted to stand, can settle
+pub can_open : (s : Scenario) (core : Core) → IsWithinLimits s → clusters_of core.clusters ≡ map free_cluster s.clusters → linings core.clusters ≡ made_from 0 0 s.clusters → core.threads.stood ≡ replicate 64 no_standing → CanSettle core
+can_open s core within clusters lined stood = record {
+  few = omega (arith, length-map core.clusters cluster_of, ap (λ (cs : List ClusterState). length cs) clusters, length-map s.clusters free_cluster, within.few_clusters);
+  lines = rw (clusters, stood) (held_free 64 0 s.clusters);
+  keyed = rw lined (keyed_made (key_of core.threads.stood) 0 0 s.clusters);
+  numbered = rw lined (numbered_made 0 0 s.clusters);
+}

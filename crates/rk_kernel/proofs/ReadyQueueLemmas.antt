@@ -1,0 +1,107 @@
+-- The moves keep in each line exactly the eligible threads of its cluster.
+use Rattle.std.proofs.Common.{◌≡◌, ℕ, zero, suc, ◌+◌, ◌<◌, ◌≤◌, List, ◌++◌, Bool, true, false, cond, not, ◌&&◌, ◌==◌, nat_lt, Some, None, length, ⊎_elim, arith, refl, ap, sym, ◌∙◌}
+use Rattle.std.specs.List.{filter, range_with_len}
+use Rattle.std.proofs.lemmas.List.{get_or_past}
+use Rattle.std.proofs.lemmas.Bool.{cases_lt, false≢true}
+use Rattle.rk_model.specs.declared.settling.Standing.{Standing}
+use Rattle.rk_model.specs.declared.settling.Move.{Move}
+use Rattle.rk_model.specs.declared.settling.Move.TheVariants.{Stay, Leave, ToEnd, ToFront}
+use Rattle.rk_model.specs.Lists.{has, times}
+use Rattle.rk_model.specs.State.{Plain, no_thread, thread_at}
+use Rattle.rk_model.specs.Scheduling.Priorities.{is_eligible, standing, standings, nth_standing}
+use Rattle.rk_model.specs.Scheduling.Settling.{is_cluster, belongs, is_stay, is_to_end, is_to_front, move_of, moves, making, moved}
+use Rattle.rk_model.proofs.CountLemmas.{times-append, times-filter, has_times, has_none, once_in_range}
+use Rattle.rk_parts.proofs.BooleanLemmas.{and_false}
+use Rattle.rk_parts.proofs.StandingLemmas.{standings_say}
+use Rattle.rk_kernel.specs.Sound.{stands, own}
+use Rattle.rk_kernel.proofs.CallerLemmas.{stands_eligible}
+
+-- ---- who belongs in the line of a cluster
+
+and_true : (b : Bool) → (b && true) ≡ b
+and_true true = refl
+and_true false = refl
+
+-- a thread belongs in the line of its home where it is eligible
+belongs_stands : (k : Plain) (c t : ℕ) → belongs c (standing k t) ≡ stands k c t
+unfolding standing stands
+belongs_stands k c t = by (is_eligible k t) where
+  by : (b : Bool) → is_cluster c (cond b (Some (thread_at k t).home) None) ≡ (((thread_at k t).home == c) && b)
+  by true = sym (and_true ((thread_at k t).home == c))
+  by false = sym (and_false ((thread_at k t).home == c))
+
+-- and so the standings of a state say
+pub noted_stands : (k : Plain) (c t : ℕ) → belongs c (nth_standing (standings k) t) ≡ stands k c t
+noted_stands k c t = ap (belongs c) (standings_say k t) ∙ belongs_stands k c t
+
+-- an eligible thread is one of the threads
+eligible_within : (k : Plain) (t : ℕ) → is_eligible k t ≡ true → (0 < t) × (t ≤ length k.threads)
+unfolding is_eligible
+eligible_within k zero h = absurd (false≢true h)
+eligible_within k (suc i) h =
+    ⊎_elim
+    (λ w. let low : 0 < suc i = omega arith in let high : suc i ≤ length k.threads = omega (arith, w) in (low, high))
+    (λ w. let none : is_eligible k (suc i) ≡ false = rw (get_or_past k.threads i no_thread w) refl in absurd (false≢true (sym none ∙ h)))
+    (cases_lt i (length k.threads))
+
+-- each of a cluster's own threads stands among them once
+pub own_once : (k : Plain) (c t : ℕ) → times t (own k c) ≡ cond (stands k c t) 1 0
+own_once k c t = times-filter (stands k c) t (range_with_len 1 (length k.threads)) ∙ by k c t (stands k c t) refl where
+  by : (k : Plain) (c t : ℕ) (b : Bool) → stands k c t ≡ b → cond b (times t (range_with_len 1 (length k.threads))) 0 ≡ cond b 1 0
+  by k c t true e = let w = eligible_within k t (stands_eligible k c t e) in once_in_range t 1 (length k.threads) (omega (arith, w.0)) (omega (arith, w.1))
+  by k c t false e = refl
+
+has_once : (b : Bool) (t : ℕ) (line : List ℕ) → times t line ≡ cond b 1 0 → has line t ≡ b
+has_once true t line once = has_times t line (omega (arith, once))
+has_once false t line once = has_none t line once
+
+-- a line with exactly the eligible threads of its cluster has exactly those that belong there
+pub line_belongs : (k : Plain) (c : ℕ) (line : List ℕ) → ((t : ℕ) → times t line ≡ times t (own k c)) → (t : ℕ) → has line t ≡ belongs c (nth_standing (standings k) t)
+line_belongs k c line held t = has_once (stands k c t) t line (held t ∙ own_once k c t) ∙ sym (noted_stands k c t)
+
+-- ---- the line after the moves
+
+-- the move, by what is asked of a thread: whether it belongs there now and before, more urgent, last, less urgent
+abbrev chosen : Bool → Bool → Bool → Bool → Bool → Move
+chosen now before lt la gt = cond (not now) Leave (cond (not before) ToEnd (cond lt ToEnd (cond la ToEnd (cond gt ToFront Stay))))
+
+-- of the three places in the new line a thread has one where it belongs there, and else none
+one_place : (now before lt la gt : Bool) (n : ℕ) → (cond (is_to_front (chosen now before lt la gt)) n 0 + cond (is_stay (chosen now before lt la gt)) (cond before n 0) 0) + cond (is_to_end (chosen now before lt la gt)) n 0 ≡ cond now n 0
+one_place false before lt la gt n = omega arith
+one_place true false lt la gt n = omega arith
+one_place true true true la gt n = omega arith
+one_place true true false true gt n = omega arith
+one_place true true false false true n = omega arith
+one_place true true false false false n = omega arith
+
+-- how often a thread that belongs in the line of a cluster stands among so many threads
+abbrev placed : List Standing → ℕ → ℕ → ℕ → ℕ
+placed stood n c t = cond (belongs c (nth_standing stood t)) (times t (range_with_len 1 n)) 0
+
+-- how often a thread stands in the line after the moves
+times-moved : (before now : List Standing) (last : List ℕ) (n c : ℕ) (line : List ℕ) (t : ℕ) → times t line ≡ placed before n c t → times t (moved (moves before now last c) n line) ≡ placed now n c t
+unfolding moves move_of
+times-moved before now last n c line t held =
+    let r = range_with_len 1 n in
+    let was = nth_standing before t in
+    let is = nth_standing now t in
+    let move = moves before now last c in
+    let front = making is_to_front move n in
+    let stay = filter (λ u. is_stay (move u)) line in
+    let ends = making is_to_end move n in
+    let a = times-append t (front ++ stay) ends ∙ ap (λ m. m + times t ends) (times-append t front stay) in
+    let f = times-filter (λ u. is_to_front (move u)) t r in
+    let s = times-filter (λ u. is_stay (move u)) t line in
+    let e = times-filter (λ u. is_to_end (move u)) t r in
+    let one = one_place (belongs c is) (belongs c was) (nat_lt is.prio was.prio) (has last t) (nat_lt was.prio is.prio) (times t r) in
+    a ∙ (rw (f, s, e, held) one)
+
+own_placed : (k : Plain) (c t : ℕ) → times t (own k c) ≡ placed (standings k) (length k.threads) c t
+own_placed k c t =
+    times-filter (stands k c) t (range_with_len 1 (length k.threads)) ∙ ap (λ b. cond b (times t (range_with_len 1 (length k.threads))) 0) (sym (noted_stands k c t))
+
+-- a line with exactly the eligible threads of its cluster has exactly those after the moves
+pub line_moved : (k next : Plain) (last : List ℕ) (c : ℕ) (line : List ℕ) → length next.threads ≡ length k.threads → ((t : ℕ) → times t line ≡ times t (own k c)) →
+    (t : ℕ) → times t (moved (moves (standings k) (standings next) last c) (length next.threads) line) ≡ times t (own next c)
+line_moved k next last c line size held t =
+    times-moved (standings k) (standings next) last (length next.threads) c line t (held t ∙ own_placed k c t ∙ ap (λ n. placed (standings k) n c t) (sym size)) ∙ sym (own_placed next c t)

@@ -1,0 +1,121 @@
+-- Settling after a gentle change has room, and keeps a state sound.
+use Rattle.std.proofs.Common.{◌≡◌, ℕ, ◌+◌, List, [], ◌∷◌, length, length-append, arith, refl, ap, sym, subst, ◌∙◌}
+use Rattle.std.proofs.lemmas.List.{length-map}
+use Rattle.rk_model.specs.declared.settling.Standing.{Standing}
+use Rattle.rk_model.specs.declared.settling.Move.{Move}
+use Rattle.rk_model.specs.Lists.{times}
+use Rattle.rk_model.specs.State.{Plain, ClusterState}
+use Rattle.rk_model.specs.Scheduling.Priorities.{is_eligible, urgency, standings}
+use Rattle.rk_model.specs.Scheduling.ReadyQueues.{most_urgent}
+use Rattle.rk_model.specs.Scheduling.Settling.{moves, moved, settle}
+use Rattle.rk_model.specs.Scheduling.Running.{all_cpus, cpu_count}
+use Rattle.rk_cluster.proofs.AssignmentLemmas.{assigned_has, length-assigned}
+use Rattle.rk_parts.specs.declared.core_state.Core.{Core}
+use Rattle.rk_parts.specs.Pieces.{cluster_of, clusters_of, plain_of}
+use Rattle.rk_parts.specs.Pinned.{Stored, stored, key_of, AllKeyed, AreNumbered, AllHeld, CanSettle, IsNoted}
+use Rattle.rk_parts.specs.Settled.{settled_cluster, settled_from}
+use Rattle.rk_parts.proofs.SettlingLemmas.{settle_each}
+use Rattle.rk_kernel.specs.Sound.{stands, own, AllSound, IsSound, KeepsLines, AllTimed, IsGentle}
+use Rattle.rk_kernel.proofs.ReadyQueueLemmas.{line_belongs, line_moved}
+
+pub length-kept : (olds news : List ClusterState) → KeepsLines olds news → length news ≡ length olds
+length-kept [] [] keeps = refl
+length-kept [] (b ∷ news) keeps = absurd keeps
+length-kept (a ∷ olds) [] keeps = absurd keeps
+length-kept (a ∷ olds) (b ∷ news) keeps = omega (arith, length-kept olds news keeps.2)
+
+-- ---- what settling asks
+
+all_held : (k : Plain) (c : ℕ) (olds news : List ClusterState) → AllSound k c olds → KeepsLines olds news → AllHeld (standings k) c news
+all_held k c [] [] sound keeps = tt
+all_held k c [] (b ∷ news) sound keeps = absurd keeps
+all_held k c (a ∷ olds) [] sound keeps = absurd keeps
+all_held k c (a ∷ olds) (b ∷ news) sound keeps =
+    ((λ t. line_belongs k c b.line (λ u. rw keeps.0 (sound.0.line u)) t), all_held k (c + 1) olds news sound.1 keeps.2)
+
+-- After a gentle change of a sound state a running kernel can settle.
+pub can_settle : (before after : Core) → IsSound (plain_of before) → IsNoted before → stored after ≡ stored before → IsGentle (plain_of before) (plain_of after) → CanSettle after
+can_settle before after sound noted kept gentle =
+    let k = plain_of before in
+    let olds = clusters_of before.clusters in
+    let news = clusters_of after.clusters in
+    let stood : after.threads.stood ≡ standings k = ap (λ (x : Stored). x.stood) kept ∙ noted.stood in
+    record {
+      few = omega (arith, length-map after.clusters cluster_of, length-kept olds news gentle.lines, sound.few_clusters);
+      lines = subst (λ (xs : List Standing). AllHeld xs 0 news) (sym stood) (all_held k 0 olds news sound.clusters gentle.lines);
+      keyed = subst (λ (x : Stored). AllKeyed (key_of x.stood) x.clusters) (sym kept) noted.keyed;
+      numbered = subst (λ (x : Stored). AreNumbered 0 0 x.clusters) (sym kept) noted.numbered;
+    }
+
+-- ---- the clusters after settling
+
+-- the clusters of a change of a state, each settled
+abbrev pub each_settled : Plain → Plain → List ℕ → List ClusterState
+each_settled k next last = settled_from (moves (standings k) (standings next) last) (urgency next) (length next.threads) 0 next.clusters
+
+pub settled_each : (k next : Plain) (last : List ℕ) → settle k next last ≡ (let n : Plain = record next { clusters = each_settled k next last } in n)
+settled_each k next last = settle_each (standings k) next last
+
+length_each : (move : ℕ → ℕ → Move) (key : ℕ → ℕ → ℕ) (n c : ℕ) (clusters : List ClusterState) → length (settled_from move key n c clusters) ≡ length clusters
+length_each move key n c [] = refl
+length_each move key n c (cluster ∷ clusters) = omega (arith, length_each move key n (c + 1) clusters)
+
+pub length-settled : (k next : Plain) (last : List ℕ) → length (settle k next last).clusters ≡ length next.clusters
+length-settled k next last =
+    ap (λ (x : Plain). length x.clusters) (settled_each k next last) ∙ length_each (moves (standings k) (standings next) last) (urgency next) (length next.threads) 0 next.clusters
+
+cpus_each : (move : ℕ → ℕ → Move) (key : ℕ → ℕ → ℕ) (n c : ℕ) (clusters : List ClusterState) → length (all_cpus (settled_from move key n c clusters)) ≡ length (all_cpus clusters)
+cpus_each move key n c [] = refl
+cpus_each move key n c (cluster ∷ clusters) =
+    let a = length-assigned cluster.cpus (most_urgent (key c) (length cluster.cpus) (moved (move c) n cluster.line)) in
+    length-append (settled_cluster (move c) (key c) n cluster).cpus (all_cpus (settled_from move key n (c + 1) clusters)) ∙ (rw (a, cpus_each move key n (c + 1) clusters) refl) ∙ sym (length-append cluster.cpus (all_cpus clusters))
+
+pub cpus-settled : (k next : Plain) (last : List ℕ) → cpu_count (settle k next last) ≡ cpu_count next
+cpus-settled k next last =
+    ap (λ (x : Plain). cpu_count x) (settled_each k next last) ∙ cpus_each (moves (standings k) (standings next) last) (urgency next) (length next.threads) 0 next.clusters
+
+cpus-kept : (olds news : List ClusterState) → KeepsLines olds news → length (all_cpus news) ≡ length (all_cpus olds)
+cpus-kept [] [] keeps = refl
+cpus-kept [] (b ∷ news) keeps = absurd keeps
+cpus-kept (a ∷ olds) [] keeps = absurd keeps
+cpus-kept (a ∷ olds) (b ∷ news) keeps = length-append b.cpus (all_cpus news) ∙ (rw (keeps.1, cpus-kept olds news keeps.2) refl) ∙ sym (length-append a.cpus (all_cpus olds))
+
+-- ---- soundness
+
+-- what a cluster's threads and timers are doesn't depend on the clusters
+own-with_clusters : (k : Plain) (clusters : List ClusterState) (c t : ℕ) → times t (own k c) ≡ times t (own (record k { clusters = clusters }) c)
+unfolding stands is_eligible
+own-with_clusters k clusters c t = refl
+
+all_sound : (k next : Plain) (last : List ℕ) (clusters : List ClusterState) (c : ℕ) (olds news : List ClusterState) → length next.threads ≡ length k.threads → AllSound k c olds → KeepsLines olds news → AllTimed next.threads c news →
+    AllSound (record next { clusters = clusters }) c (settled_from (moves (standings k) (standings next) last) (urgency next) (length next.threads) c news)
+all_sound k next last clusters c [] [] size sound keeps timed = tt
+all_sound k next last clusters c [] (b ∷ news) size sound keeps timed = absurd keeps
+all_sound k next last clusters c (a ∷ olds) [] size sound keeps timed = absurd keeps
+all_sound k next last clusters c (a ∷ olds) (b ∷ news) size sound keeps timed =
+    let line = moved (moves (standings k) (standings next) last c) (length next.threads) b.line in (
+      record {
+        few_cpus = rw (length-assigned, keeps.1) sound.0.few_cpus;
+        line = λ t. line_moved k next last c b.line size (λ u. rw keeps.0 (sound.0.line u)) t ∙ own-with_clusters next clusters c t;
+        manned = λ t h. assigned_has (urgency next c) b.cpus (length b.cpus) line t h;
+        timers = timed.0;
+      },
+      all_sound k next last clusters (c + 1) olds news size sound.1 keeps.2 timed.1,
+    )
+
+-- A gentle change of a sound state, settled, is sound.
+pub sound_settled : (k next : Plain) (last : List ℕ) → IsSound k → IsGentle k next → IsSound (settle k next last)
+sound_settled k next last sound gentle =
+    let same_length : length (settle k next last).clusters ≡ length k.clusters = length-settled k next last ∙ length-kept k.clusters next.clusters gentle.lines in
+    record {
+      places = gentle.places ∙ sound.places;
+      few_clusters = rw same_length sound.few_clusters;
+      some_cluster = rw same_length sound.some_cluster;
+      few_cpus = rw (cpus-settled, cpus-kept k.clusters next.clusters gentle.lines) sound.few_cpus;
+      horizon = rw gentle.scenario sound.horizon;
+      present = rw (gentle.present, gentle.scenario) sound.present;
+      bodies = rw gentle.scenario sound.bodies;
+      threads = rw (same_length, gentle.present, gentle.scenario) gentle.threads;
+      clusters = subst (λ (x : Plain). AllSound x 0 x.clusters) (sym (settled_each k next last)) (all_sound k next last (each_settled k next last) 0 k.clusters next.clusters gentle.places sound.clusters gentle.lines gentle.timers);
+      named = gentle.named;
+    }

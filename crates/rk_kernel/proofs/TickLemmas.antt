@@ -1,0 +1,157 @@
+-- A tick that passes keeps a state sound, before any timer fires.
+use Rattle.std.proofs.Common.{◌≡◌, ℕ, zero, suc, ◌+◌, ◌-◌, ◌<◌, ◌≤◌, List, [], ◌∷◌, Bool, true, false, cond, eqb, ◌||◌, ◌&&◌, not, Option, None, Some, length, get_or, arith, refl, ap, sym, ◌∙◌}
+use Rattle.std.specs.List.{AllByRecursion, range_with_len}
+use Rattle.std.proofs.lemmas.Bool.Decides.{nat_tests}
+use Rattle.std.proofs.lemmas.List.{ext_get_or}
+use Rattle.std.proofs.lemmas.List.Elements.{filter_agree, All-from_recursion, recursion_from_All}
+use Rattle.rk_model.specs.declared.scenario.Scenario.{Scenario}
+use Rattle.rk_model.specs.declared.state.Thread.{Thread}
+use Rattle.rk_model.specs.declared.state.Wait.{Wait}
+use Rattle.rk_model.specs.declared.state.Wait.TheVariants.{ForTime}
+use Rattle.rk_model.specs.Lists.{times}
+use Rattle.rk_model.specs.State.{Plain, ClusterState, no_thread, thread_at}
+use Rattle.rk_model.specs.Scheduling.Priorities.{is_eligible, is_started, is_no_wait, spins_in, standings, no_standing}
+use Rattle.rk_model.specs.declared.ids.Class.{Class}
+use Rattle.rk_model.specs.declared.ids.Class.TheVariants.{Task}
+use Rattle.rk_model.specs.Directives.Tasks.{has_begun, begun_in}
+use Rattle.rk_parts.specs.Threads.{own_standing}
+use Rattle.rk_parts.proofs.StandingLemmas.{length-standings, standing_own, standings_say}
+use Rattle.rk_model.specs.Scheduling.Running.{runs_somewhere}
+use Rattle.rk_model.specs.Scheduling.Ticks.{charged, ticked, charge_from, pass}
+use Rattle.rk_model.specs.Limits.{AreRunnable}
+use Rattle.rk_kernel.specs.Sound.{IsSound, IsInBounds, AllSound, own, stands, waits_in, is_waiting}
+use Rattle.rk_model.specs.declared.state.Armer.TheVariants.{Thread as OfThread}
+use Rattle.rk_model.specs.Scheduling.Timers.{times_armed}
+use Rattle.rk_kernel.proofs.ThreadBoundsLemmas.{arrived_bounds}
+
+-- what holds at each of two outcomes of a test holds of the choice
+by_test : {X : Type 0} (P : X → Type 0) (b : Bool) (x y : X) → (b ≡ true → P x) → (b ≡ false → P y) → P (cond b x y)
+by_test P true x y f g = f refl
+by_test P false x y f g = g refl
+
+-- what doesn't look at a thread's line, work left and count of computed ticks, a tick doesn't change
+pub charged_steady : {Y : Type 0} (f : Thread → Y) (s : Scenario) (x : Thread) → ((x : Thread) (line left computed : ℕ) → f (record x { line = line; left = left; computed = computed }) ≡ f x) → f (charged s x) ≡ f x
+charged_steady f s x steady =
+    by_test (λ (y : Thread). f y ≡ f x) (eqb x.left 0) _ _ (λ _. refl)
+    (λ _. by_test (λ (y : Thread). f y ≡ f x) (eqb x.left 1) _ _ (λ _. steady x _ _ _) (λ _. steady x x.line _ _))
+
+charge_steady : {Y : Type 0} (f : Thread → Y) (k : Plain) (t : ℕ) (ts : List Thread) (i : ℕ) → ((x : Thread) (line left computed : ℕ) → f (record x { line = line; left = left; computed = computed }) ≡ f x) → f (get_or (charge_from k t ts) i no_thread) ≡ f (get_or ts i no_thread)
+unfolding ticked
+charge_steady f k t [] i steady = refl
+charge_steady f k t (x ∷ xs) zero steady = by_test (λ (y : Thread). f y ≡ f x) (runs_somewhere k t) _ _ (λ _. charged_steady f k.scenario x steady) (λ _. refl)
+charge_steady f k t (x ∷ xs) (suc i) steady = charge_steady f k (t + 1) xs i steady
+
+pub passed_steady : {Y : Type 0} (f : Thread → Y) (k : Plain) (t : ℕ) → ((x : Thread) (line left computed : ℕ) → f (record x { line = line; left = left; computed = computed }) ≡ f x) → f (thread_at (pass k) t) ≡ f (thread_at k t)
+passed_steady f k zero steady = refl
+passed_steady f k (suc i) steady = charge_steady f k 1 k.threads i steady
+
+pub length-charge_from : (k : Plain) (t : ℕ) (ts : List Thread) → length (charge_from k t ts) ≡ length ts
+length-charge_from k t [] = refl
+length-charge_from k t (x ∷ xs) = omega (arith, length-charge_from k (t + 1) xs)
+
+pub spins_alike : (k n : Plain) (wait : Option Wait) → spins_in n wait ≡ spins_in k wait
+spins_alike k n None = refl
+spins_alike k n (Some ForTime) = refl
+
+eligible-pass : (k : Plain) (t : ℕ) → is_eligible (pass k) t ≡ is_eligible k t
+unfolding is_eligible
+eligible-pass k t =
+    let n = pass k in
+    ap (λ b. is_started (thread_at n t).life && not (thread_at n t).suspended && (is_no_wait (thread_at n t).wait || b)) (spins_alike k n (thread_at n t).wait)
+    ∙ passed_steady (λ (x : Thread). is_started x.life && not x.suspended && (is_no_wait x.wait || spins_in k x.wait)) k t (λ _ _ _ _. refl)
+
+stands-pass : (k : Plain) (c t : ℕ) → stands (pass k) c t ≡ stands k c t
+unfolding stands
+stands-pass k c t =
+    ap (λ b. (eqb (thread_at (pass k) t).home c) && b) (eligible-pass k t) ∙ ap (λ h. (eqb h c) && is_eligible k t) (passed_steady (λ (x : Thread). x.home) k t (λ _ _ _ _. refl))
+
+timed-pass : (k : Plain) (c t : ℕ) → waits_in (pass k).threads c t ≡ waits_in k.threads c t
+timed-pass k c t = passed_steady (λ (x : Thread). (eqb x.home c) && is_waiting x.wait) k t (λ _ _ _ _. refl)
+
+own-pass : (k : Plain) (c : ℕ) → own (pass k) c ≡ own k c
+own-pass k c = rw length-charge_from (filter_agree (stands (pass k) c) (stands k c) (stands-pass k c) (range_with_len 1 (length k.threads)))
+
+sound_clusters : (k : Plain) (c : ℕ) (clusters : List ClusterState) → AllSound k c clusters → AllSound (pass k) c clusters
+sound_clusters k c [] sound = tt
+sound_clusters k c (cluster ∷ clusters) sound = (
+  record {
+    few_cpus = sound.0.few_cpus;
+    line = λ t. sound.0.line t ∙ ap (times t) (sym (own-pass k c));
+    manned = sound.0.manned;
+    timers = λ t. (let few : times_armed (OfThread t) cluster.timers ≤ cond (waits_in (pass k).threads c t) 1 0 = rw (timed-pass k c t) (sound.0.timers t) in few);
+  },
+  sound_clusters k (c + 1) clusters sound.1,
+)
+
+more_left : (left : ℕ) → eqb left 0 ≡ false → eqb left 1 ≡ false → left - 1 ≡ 0 → ⊥
+more_left zero some more none = grind (arith, nat_tests, some)
+more_left (suc zero) some more none = grind (arith, nat_tests, more)
+more_left (suc (suc n)) some more none = omega (arith, none)
+
+-- a thread that is charged in a tick is within the bounds after it
+charged_bounds : (s : Scenario) (n p : ℕ) (x : Thread) → AreRunnable s.bodies → IsInBounds s n p x → IsInBounds s n (p + 1) (charged s x)
+charged_bounds s n p x runs b =
+    let P : Thread → Type 0 = IsInBounds s n (p + 1) in
+    by_test P (eqb x.left 0) _ _ (λ _. record { home = b.home; line = b.line; working = b.working; calling = b.calling; apart = b.apart; acts = b.acts; idle = b.idle; computed = omega (arith, b.computed) })
+    (λ some. by_test P (eqb x.left 1) _ _
+    (λ one.
+    let left : 0 < x.left = grind (arith, nat_tests) in
+    let a = arrived_bounds s n p x (x.line + 1) runs b.home (omega (arith, b.working left)) b.computed (b.apart left) in
+    record { home = a.home; line = a.line; working = a.working; calling = a.calling; apart = a.apart; acts = a.acts; idle = a.idle; computed = omega (arith, b.computed) })
+    (λ more. record { home = b.home; line = b.line; working = λ w. b.working (omega (arith, w)); calling = b.calling; apart = λ w. b.apart (omega (arith, w)); acts = λ none. absurd (more_left x.left some more none); idle = b.idle; computed = omega (arith, b.computed) }))
+
+later_bounds : (s : Scenario) (n p : ℕ) (x : Thread) → IsInBounds s n p x → IsInBounds s n (p + 1) x
+later_bounds s n p x b = record { home = b.home; line = b.line; working = b.working; calling = b.calling; apart = b.apart; acts = b.acts; idle = b.idle; computed = omega (arith, b.computed) }
+
+charge_bounds : (k : Plain) (n t : ℕ) (ts : List Thread) → AreRunnable k.scenario.bodies → AllByRecursion (IsInBounds k.scenario n k.present) ts → AllByRecursion (IsInBounds k.scenario n (k.present + 1)) (charge_from k t ts)
+unfolding ticked
+charge_bounds k n t [] runs all = tt
+charge_bounds k n t (x ∷ xs) runs all =
+    let P : Thread → Type 0 = IsInBounds k.scenario n (k.present + 1) in
+    (by_test P (runs_somewhere k t) _ _ (λ _. charged_bounds k.scenario n k.present x runs all.0) (λ _. later_bounds k.scenario n k.present x all.0), charge_bounds k n (t + 1) xs runs all.1)
+
+begun-pass : (k : Plain) (class : Class) (t : ℕ) → begun_in (pass k).threads class t ≡ begun_in k.threads class t
+begun-pass k Task t = passed_steady (λ (x : Thread). has_begun x.life) k t (λ _ _ _ _. refl)
+begun-pass k class t = refl
+
+-- where there is no thread, there is none after a tick
+charge_none : (k : Plain) (t : ℕ) (ts : List Thread) (i : ℕ) → get_or ts i no_thread ≡ no_thread → get_or (charge_from k t ts) i no_thread ≡ no_thread
+unfolding ticked
+charge_none k t [] i none = refl
+charge_none k t (x ∷ xs) zero none = by (runs_somewhere k t) (ap (charged k.scenario) none) where
+  by : (b : Bool) → charged k.scenario x ≡ no_thread → cond b (charged k.scenario x) x ≡ no_thread
+  by true here = here
+  by false here = none
+charge_none k t (x ∷ xs) (suc i) none = charge_none k (t + 1) xs i none
+
+passed_none : (k : Plain) (t : ℕ) → thread_at k t ≡ no_thread → thread_at (pass k) t ≡ no_thread
+passed_none k zero none = refl
+passed_none k (suc i) none = charge_none k 1 k.threads i none
+
+-- When a tick passes all threads stand as before.
+pub standings-pass : (k : Plain) → standings (pass k) ≡ standings k
+standings-pass k =
+    let size = length-charge_from k 1 k.threads in
+    let p = length-standings (pass k) 1 (length (pass k).threads) in
+    let q = length-standings k 1 (length k.threads) in
+    ext_get_or no_standing (standings (pass k)) (standings k) (omega (arith, p, q, size))
+    (λ i h. standings_say (pass k) (suc i) ∙ standing_own (pass k) (suc i) ∙ passed_steady own_standing k (suc i) (λ _ _ _ _. refl) ∙ sym (standings_say k (suc i) ∙ standing_own k (suc i)))
+
+-- A tick below the horizon keeps a state sound.
+pub sound_pass : (k : Plain) → IsSound k → k.present < k.scenario.horizon → IsSound (pass k)
+sound_pass k sound below = record {
+  places = length-charge_from k 1 k.threads ∙ sound.places;
+  few_clusters = sound.few_clusters;
+  some_cluster = sound.some_cluster;
+  few_cpus = sound.few_cpus;
+  horizon = sound.horizon;
+  present = omega arith;
+  bodies = sound.bodies;
+  threads = All-from_recursion (IsInBounds k.scenario (length k.clusters) (k.present + 1)) _ (charge_bounds k (length k.clusters) 1 k.threads sound.bodies (recursion_from_All (IsInBounds k.scenario (length k.clusters) k.present) k.threads sound.threads));
+  clusters = sound_clusters k 0 k.clusters sound.clusters;
+  named = record {
+    split = sound.named.split;
+    live = λ class t. sound.named.live class t ∙ ap (λ b. cond b 1 0) (sym (begun-pass k class t));
+    blank = λ t none. passed_none k t (sound.named.blank t (sym (begun-pass k Task t) ∙ none));
+  };
+}

@@ -1,0 +1,125 @@
+-- What holds of each state that a legal history leads to: of lines, runners and processors, and of refusals.
+use Rattle.std.specs.Prelude.{ℕ, ◌+◌, ◌<◌, ◌≤◌, ◌≡◌, ◌↔◌, ◌⊎◌, List, [], ◌∷◌, ◌++◌, Bool, true, false, ◌&&◌, ◌||◌, not, Option, Some, None, ◌==◌, length, if◌then◌else◌}
+use Rattle.rk_model.specs.declared.scenario.Scenario.{Scenario}
+use Rattle.rk_model.specs.declared.scenario.Op.{Op}
+use Rattle.rk_model.specs.declared.entry.Entry.{Entry}
+use Rattle.rk_model.specs.declared.entry.What.{What}
+use Rattle.rk_model.specs.declared.entry.What.TheVariants.{Call, Return, Tick, End}
+use Rattle.rk_model.specs.declared.state.Thread.{Thread}
+use Rattle.rk_model.specs.declared.entry.View.TheVariants.{Runs}
+use Rattle.rk_model.specs.Lists.{has, times}
+use Rattle.rk_model.specs.declared.ids.Class.{Class}
+use Rattle.rk_model.specs.declared.ids.Class.TheVariants.{Task}
+use Rattle.rk_model.specs.Names.{indices}
+use Rattle.rk_model.specs.State.{Plain, no_thread, thread_at, put_thread, op_at, cluster_at}
+use Rattle.rk_model.specs.Directives.Objects.{names_in, is_live}
+use Rattle.rk_model.specs.Directives.Tasks.{begun_in}
+use Rattle.rk_model.specs.Directives.Outcomes.{finished}
+use Rattle.rk_model.specs.Steps.{Act, act}
+use Rattle.rk_model.specs.Scheduling.Priorities.{urgency}
+use Rattle.rk_model.specs.Scheduling.ReadyQueues.{rank, runners}
+use Rattle.rk_model.specs.Scheduling.Running.{running, caller}
+use Rattle.rk_model.specs.Histories.{Legal, after, ends, lowest}
+use Rattle.rk_model.specs.Text.Scenarios.{IsScenario}
+use Rattle.rk_kernel.specs.declared.steps.CoreStep.{CoreStep}
+use Rattle.rk_kernel.specs.declared.steps.CoreStep.TheVariants.{Did, Nothing}
+use Rattle.rk_kernel.specs.Sound.{stands, has_action}
+
+-- it holds of the state after each legal history of each scenario
+abbrev pub AfterEach : (Plain → Type 0) → Type 0
+AfterEach Holds = (s : Scenario) (xs : List Entry) → IsScenario s → Legal s xs → Holds (after s xs)
+
+-- The line of each cluster holds exactly the eligible threads of that home, each once.
+abbrev pub HoldsItsOwn : Plain → Type 0
+HoldsItsOwn k = (c t : ℕ) → c < length k.clusters → times t (cluster_at k c).line ≡ (if stands k c t then 1 else 0)
+
+-- It is so after each legal history.
+abbrev pub LinesHoldTheirOwn : Type 0
+LinesHoldTheirOwn = AfterEach HoldsItsOwn
+
+-- how many processors of a list have the thread
+abbrev pub seats : ℕ → List (Option ℕ) → ℕ
+seats t [] = 0
+seats t (None ∷ cpus) = seats t cpus
+seats t (Some u ∷ cpus) = (if u == t then 1 else 0) + seats t cpus
+
+-- The processors of a cluster have exactly its runners: as many processors have a thread as it stands among them, which is once or never.
+pub record IsManned (k : Plain) (c : ℕ) : Type 0 where
+  pub once : (t : ℕ) → times t (runners k c) ≤ 1
+  pub manned : (t : ℕ) → seats t (cluster_at k c).cpus ≡ times t (runners k c)
+
+-- The processors of each cluster have exactly its runners, each on one processor.
+abbrev pub ProcessorsHaveTheRunners : Type 0
+ProcessorsHaveTheRunners = AfterEach (λ k. (c : ℕ) → c < length k.clusters → IsManned k c)
+
+-- a thread stands in a line, and fewer than m threads of the line are more urgent
+pub record StandsUrgent (key : ℕ → ℕ) (m : ℕ) (line : List ℕ) (t : ℕ) : Type 0 where
+  pub front : List ℕ
+  pub back : List ℕ
+  pub place : line ≡ front ++ t ∷ back
+  pub urgent : rank key front t back < m
+
+-- The runners of each cluster are exactly those of its line with fewer more urgent ones than there are processors.
+abbrev pub RunsTheMostUrgent : Plain → Type 0
+RunsTheMostUrgent k = (c t : ℕ) → c < length k.clusters → has (runners k c) t ≡ true ↔ StandsUrgent (urgency k c) (length (cluster_at k c).cpus) (cluster_at k c).line t
+
+-- It is so after each legal history.
+abbrev pub RunnersAreTheMostUrgent : Type 0
+RunnersAreTheMostUrgent = AfterEach RunsTheMostUrgent
+
+-- No thread runs on two processors.
+abbrev pub NoneRunsTwice : Type 0
+NoneRunsTwice = AfterEach (λ k. (p q t : ℕ) → running k p ≡ Runs t → running k q ≡ Runs t → p ≡ q)
+
+-- The names of a class: each index from 1 to 64 is that of one live object, once, or is free, once; and an object lives exactly where it has begun.
+pub record HasNames (k : Plain) (class : Class) : Type 0 where
+  pub once : (index : ℕ) → 1 ≤ index → index ≤ 64 → times index (indices (names_in k class).live) + times index (names_in k class).free ≡ 1
+  pub begun : (index : ℕ) → is_live k class index ≡ begun_in k.threads class index
+
+-- It is so of each class after each legal history.
+abbrev pub NamesAndObjectsAgree : Type 0
+NamesAndObjectsAgree = AfterEach (λ k. (class : Class) → HasNames k class)
+
+-- Where no task lives, there is no thread: nothing is left there of one that was deleted.
+abbrev pub NothingIsLeftOfDeletedTasks : Type 0
+NothingIsLeftOfDeletedTasks = AfterEach (λ k. (t : ℕ) → is_live k Task t ≡ false → thread_at k t ≡ no_thread)
+
+-- The history in which always the least processor that has a directive acts ends with End, or has as many entries as it may have.
+abbrev pub LowestGoesOn : Type 0
+LowestGoesOn = (s : Scenario) (n : ℕ) → IsScenario s → (ends (lowest s n) ≡ true) ⊎ (length (lowest s n) ≡ n)
+
+-- A directive never acts for a line of work or a goto: a thread that has a directive and doesn't return from one is at another line, or behind the last.
+abbrev pub NoneActsAtWork : Type 0
+NoneActsAtWork = AfterEach (λ k. (p t : ℕ) → caller k p ≡ Some t → (thread_at k t).finished ≡ None → has_action (op_at k.scenario (thread_at k t).body (thread_at k t).line) ≡ true)
+
+-- whether an entry is that of a directive, and not of a return, a tick or the end
+abbrev pub is_call : What → Bool
+is_call Call = true
+is_call Return = false
+is_call Tick = false
+is_call End = false
+
+-- Whether a line of a body may be done with TIMEOUT, which is no refusal then; none that is built so far may.
+abbrev pub may_be_late : Option Op → Bool
+may_be_late o = false
+
+-- whether the number of a status that a line of a body has is that of a refusal: neither 0 (successful) nor 1 (the task has ended) nor 255 (it waits), nor 6 (it is late) where the line may be late
+abbrev pub is_refused : Option Op → ℕ → Bool
+is_refused o status = not ((status == 0) || (status == 1) || (status == 255) || ((status == 6) && may_be_late o))
+
+-- whether an entry is a refusal
+abbrev pub is_refusal : Scenario → Entry → Bool
+is_refusal s x = is_call x.what && is_refused (op_at s x.body x.line) x.status
+
+-- a thread after its line refused: it has gone on, and nothing else of it changed but its result variable, which is 0
+abbrev pub refused_thread : Scenario → Thread → Thread
+refused_thread s thread = finished s thread 0
+
+-- A refusal changes the caller alone: its thread has gone on, with 0 in its result variable, and nothing else of the state changed.
+abbrev pub RefusalsChangeTheCallerAlone : Type 0
+RefusalsChangeTheCallerAlone = AfterEach (λ k. (p : ℕ) (a : Act) → act k p ≡ Some a → is_refusal k.scenario a.entry ≡ true → a.next ≡ put_thread k a.entry.task (refused_thread k.scenario (thread_at k a.entry.task)))
+
+-- a step of a processor that is a refusal changed the caller alone
+abbrev pub RefusesAlone : CoreStep → Plain → Plain → Type 0
+RefusesAlone (Did x) old new = is_refusal old.scenario x ≡ true → new ≡ put_thread old x.task (refused_thread old.scenario (thread_at old x.task))
+RefusesAlone (Nothing why) old new = Unit {0}

@@ -1,0 +1,6 @@
+pub mod Priorities
+pub mod ReadyQueues
+pub mod Settling
+pub mod Running
+pub mod Timers
+pub mod Ticks

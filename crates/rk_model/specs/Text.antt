@@ -1,0 +1,5 @@
+pub mod Words
+pub mod Forms
+pub mod Scenarios
+pub mod Schedules
+pub mod Reading

@@ -1,0 +1,94 @@
+-- A register of a cluster as it is written, one thread that may have a change after another.
+use Rattle.std.proofs.Common.{◌≡◌, ℕ, ◌+◌, ◌<◌, List, [], ◌∷◌, ◌++◌, Bool, true, false, cond, not, ◌==◌, ◌||◌, nat_lt, ◌⊎◌, inl, inr, ⊎_elim, Option, Some, None, length, map, drop, get_or, arith, refl, ap, sym, ◌∙◌, subst}
+use Rattle.std.proofs.lemmas.Bool.{false≢true}
+use Rattle.std.proofs.lemmas.Bool.Decides.{nat_tests}
+use Rattle.std.proofs.lemmas.List.{drop_more}
+use Rattle.rk_model.specs.declared.settling.Standing.{Standing}
+use Rattle.rk_model.specs.declared.settling.Move.TheVariants.{Stay, Leave, ToEnd, ToFront}
+use Rattle.rk_model.specs.declared.state.Thread.{Thread}
+use Rattle.rk_model.specs.Lists.{has}
+use Rattle.rk_model.specs.Scheduling.Priorities.{nth_standing}
+use Rattle.rk_model.specs.Scheduling.Settling.{belongs, moves, move_of}
+use Rattle.rk_model.proofs.CountLemmas.{has-append}
+use Rattle.rk_cluster.specs.declared.moves.Change.{Change}
+use Rattle.rk_cluster.specs.Registers.{with_change}
+use Rattle.rk_parts.specs.ClusterRegisters.{change_by, register}
+use Rattle.rk_parts.specs.Threads.{own_standing, StandAsNoted}
+use Rattle.rk_parts.proofs.StandingLemmas.{standing_of}
+
+-- a thread that stands as before and doesn't go last has no change
+still_none : (c : ℕ) (s : Standing) → change_by (belongs c s) (move_of c s s false) s.prio ≡ None
+unfolding move_of
+still_none c s = by (belongs c s) (nat_lt s.prio s.prio) (grind (arith, nat_tests)) where
+  by : (e b : Bool) → b ≡ false → change_by e (cond (not e) Leave (cond (not e) ToEnd (cond b ToEnd (cond false ToEnd (cond b ToFront Stay))))) s.prio ≡ None
+  by true true less = absurd (false≢true (sym less))
+  by true false less = refl
+  by false b less = refl
+
+or_first : (a b : Bool) → (a || b) ≡ false → a ≡ false
+or_first true b h = let no : ⊥ = cc in absurd no
+or_first false b h = refl
+
+or_second : (a b : Bool) → (a || b) ≡ false → b ≡ false
+or_second true b h = let no : ⊥ = cc in absurd no
+or_second false b h = h
+
+-- the register says of a thread that isn't marked and doesn't go last that nothing changes
+unmarked_none : (marked last : List ℕ) (stood : List Standing) (places : List Thread) (c t : ℕ) → StandAsNoted marked stood places → has (marked ++ last) t ≡ false → register stood (map own_standing places) last c t ≡ None
+unfolding moves
+unmarked_none marked last stood places c t noted none =
+    let apart : (has marked t || has last t) ≡ false = sym (has-append marked last t) ∙ none in
+    let same : nth_standing (map own_standing places) t ≡ nth_standing stood t = standing_of places t ∙ noted t (or_first _ _ apart) in
+    rw (same, or_second (has marked t) (has last t) apart) (still_none c (nth_standing stood t))
+
+-- A register as far as it is written: only threads that are left may lack their change.
+pub record IsFilling (whole : ℕ → Option Change) (left : List ℕ) (out : ℕ → Option Change) : Type 0 where
+  pub told : (t : ℕ) → has left t ≡ false → out t ≡ whole t
+  pub part : (t : ℕ) → (out t ≡ None) ⊎ (out t ≡ whole t)
+
+pub fill_none : (marked last : List ℕ) (stood : List Standing) (places : List Thread) (c : ℕ) (out : ℕ → Option Change) → StandAsNoted marked stood places → ((t : ℕ) → out t ≡ None) → IsFilling (register stood (map own_standing places) last c) (marked ++ last) out
+fill_none marked last stood places c out noted none = record {
+  told = λ t h. none t ∙ sym (unmarked_none marked last stood places c t noted h);
+  part = λ t. inl (none t);
+}
+
+-- one thread more, which has a change
+pub fill_some : (whole : ℕ → Option Change) (u : ℕ) (left : List ℕ) (out next : ℕ → Option Change) (change : Change) → IsFilling whole (u ∷ left) out → Some change ≡ whole u → next ≡ with_change out u change → IsFilling whole left next
+fill_some whole u left out next change is has_it set = record {
+  told = λ t h. ap (λ f. f t) set ∙ here t (u == t) refl h;
+  part = λ t. rw set (there t (u == t) refl);
+} where
+  equal : (t : ℕ) → (u == t) ≡ true → u ≡ t
+  equal t e = grind (arith, nat_tests, e)
+
+  here : (t : ℕ) (b : Bool) → (u == t) ≡ b → has left t ≡ false → cond b (Some change) (out t) ≡ whole t
+  here t true e h = has_it ∙ ap whole (equal t e)
+  here t false e h = is.told t (rw (e, h) refl)
+
+  there : (t : ℕ) (b : Bool) → (u == t) ≡ b → (cond b (Some change) (out t) ≡ None) ⊎ (cond b (Some change) (out t) ≡ whole t)
+  there t true e = inr (has_it ∙ ap whole (equal t e))
+  there t false e = is.part t
+
+-- one thread more, which has none
+pub fill_other : (whole : ℕ → Option Change) (u : ℕ) (left : List ℕ) (out : ℕ → Option Change) → IsFilling whole (u ∷ left) out → None ≡ whole u → IsFilling whole left out
+fill_other whole u left out is none = record {
+  told = λ t h. by t (u == t) refl h;
+  part = is.part;
+} where
+  by : (t : ℕ) (b : Bool) → (u == t) ≡ b → has left t ≡ false → out t ≡ whole t
+  by t true e h =
+      let same : u ≡ t = grind (arith, nat_tests, e) in
+      ⊎_elim (λ n. n ∙ none ∙ ap whole same) (λ w. w) (is.part t)
+  by t false e h = is.told t (rw (e, h) refl)
+
+-- with none left it is the whole register
+pub filled : (whole : ℕ → Option Change) (left : List ℕ) (out : ℕ → Option Change) → left ≡ [] → IsFilling whole left out → out ≡ whole
+filled whole left out none is = λ i t. is.told t (ap (λ us. has us t) none) i
+
+-- those of a list from a place on, with others behind them, where the one there is known
+pub left_from : (threads last : List ℕ) (i u : ℕ) → i < length threads → u ≡ get_or threads i u → drop i threads ++ last ≡ u ∷ (drop (i + 1) threads ++ last)
+left_from threads last i u within is = ap (λ (us : List ℕ). us ++ last) (drop_more threads i u within) ∙ ap (λ v. v ∷ (drop (i + 1) threads ++ last)) (sym is)
+
+-- when none of the list is left, those behind it are
+pub fill_behind : (whole : ℕ → Option Change) (left last rest : List ℕ) (out : ℕ → Option Change) → left ≡ [] → last ≡ rest → IsFilling whole (left ++ last) out → IsFilling whole rest out
+fill_behind whole left last rest out none same is = subst (λ us. IsFilling whole us out) (ap (λ (us : List ℕ). us ++ last) none ∙ same) is

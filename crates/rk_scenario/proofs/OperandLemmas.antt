@@ -1,0 +1,149 @@
+-- The words of a line of a body are those of the grammar exactly where the machine takes them.
+use Rattle.std.proofs.Common.{◌≡◌, ℕ, Bool, true, false, cond, List, [], ◌∷◌, Option, Some, None, Ok, refl, ap, subst, sym, ◌∙◌}
+use Rattle.std.specs.Option.{option_map}
+use Rattle.std.specs.Str.{bytes_eq}
+use Rattle.rk_model.specs.declared.forms.TheConstants.{FORMS}
+use Rattle.rk_model.specs.declared.scenario.Op.TheVariants.{Work}
+use Rattle.rk_model.specs.declared.scenario.Op.{Op}
+use Rattle.rk_model.specs.declared.scenario.ScenarioWhy.TheVariants.{NotYetBuilt}
+use Rattle.rk_model.specs.Text.Forms.{Operand, Value, Makes, Form, Row, form_of, word_in, word_of, form_from, form_in}
+use Rattle.rk_model.specs.Text.Scenarios.{Known, IsSpelled, Spell, IsOfForm, IsOp}
+use Rattle.rk_model.specs.Text.Reading.{operand_of, fits, made_of, form_line, line_like, op_line, is_end}
+use Rattle.rk_scenario.proofs.SpellingLemmas.{bind_ok, then_ok, ok_is, text_is, number_ok, number_is, var_ok, var_is, id_ok, id_is, goto_ok, goto_is, name_ok, name_is, name0_ok, name0_is, start_ok, start_is}
+
+-- ---- operands
+
+-- what the machine takes as the word of an operand spells its value
+operand_ok : (told : Known) (o : Operand) (word : List ℕ) (value : Value o) → operand_of told o word ≡ Ok value → IsSpelled told o word value
+unfolding operand_of
+operand_ok told (Operand.Number least most) word n e = number_ok least most word n e
+operand_ok told Operand.Name word name e = name_ok word name e
+operand_ok told Operand.Name0 word name e = name0_ok word name e
+operand_ok told Operand.Var word var e = var_ok word var e
+operand_ok told Operand.Id word id e = id_ok word id e
+operand_ok told Operand.B word body e = start_ok told word body e
+operand_ok told Operand.Earlier word n e = goto_ok told.earlier word n e
+
+-- the machine takes each word that spells a value of an operand, as that value
+operand_is : (told : Known) (o : Operand) (word : List ℕ) (value : Value o) → IsSpelled told o word value → operand_of told o word ≡ Ok value
+unfolding operand_of
+operand_is told (Operand.Number least most) word n h = number_is least most word n h
+operand_is told Operand.Name word name h = name_is word name h
+operand_is told Operand.Name0 word name h = name0_is word name h
+operand_is told Operand.Var word var h = var_is word var h
+operand_is told Operand.Id word id h = id_is word id h
+operand_is told Operand.B word body h = start_is told word body h
+operand_is told Operand.Earlier word n h = goto_is told.earlier word n h
+
+-- ---- forms
+
+made_ok : (told : Known) (operands : List Operand) (made : Makes operands) (words : List (List ℕ)) (op : Op) → made_of told operands made words ≡ Ok op → Spell told operands made words op
+made_ok told [] made [] op e = ok_is made op e
+made_ok told [] made (word ∷ words) op e = absurd cc
+made_ok told (o ∷ operands) made [] op e = absurd cc
+made_ok told (o ∷ operands) made (word ∷ words) op e =
+    let b = bind_ok (operand_of told o word) (λ value. made_of told operands (made value) words) op e in
+    (b.0, operand_ok told o word b.0 b.1, made_ok told operands (made b.0) words op b.2)
+
+made_is : (told : Known) (operands : List Operand) (made : Makes operands) (words : List (List ℕ)) (op : Op) → Spell told operands made words op → made_of told operands made words ≡ Ok op
+made_is told [] made [] op h = rw h refl
+made_is told [] made (word ∷ words) op h = absurd h
+made_is told (o ∷ operands) made [] op h = absurd h
+made_is told (o ∷ operands) made (word ∷ words) op h = rw (operand_is told o word h.0 h.1) (made_is told operands (made h.0) words op h.2)
+
+spell_fits : (told : Known) (operands : List Operand) (made : Makes operands) (words : List (List ℕ)) (op : Op) → Spell told operands made words op → fits operands words ≡ true
+spell_fits told [] made [] op h = refl
+spell_fits told [] made (word ∷ words) op h = absurd h
+spell_fits told (o ∷ operands) made [] op h = absurd h
+spell_fits told (o ∷ operands) made (word ∷ words) op h = spell_fits told operands (made h.0) words op h.2
+
+form_ok : (told : Known) (form : Form) (words : List (List ℕ)) (op : Op) → form_line told form words ≡ Ok op → IsOfForm told form (word_in form ∷ words) op
+unfolding form_line
+form_ok told (Row first operands made) words op e =
+    let t = then_ok (fits operands words) (made_of told operands made words) NotYetBuilt op e in
+    (words, refl, made_ok told operands made words op t.1)
+
+form_is : (told : Known) (form : Form) (words : List (List ℕ)) (op : Op) → IsOfForm told form words op → (rest : List (List ℕ)) × (words ≡ word_in form ∷ rest) × (form_line told form rest ≡ Ok op)
+unfolding form_line
+form_is told (Row first operands made) words op h = (h.0, h.1, rw (spell_fits told operands made h.0 op h.2) (made_is told operands made h.0 op h.2))
+
+-- ---- keywords
+
+-- what holds of each op that values make
+abbrev Always : (Op → Type 0) → (operands : List Operand) → Makes operands → Type 0
+Always P [] made = P made
+Always P (o ∷ operands) made = (value : Value o) → Always P operands (made value)
+
+always_holds : (P : Op → Type 0) (told : Known) (operands : List Operand) (made : Makes operands) (words : List (List ℕ)) (op : Op) → Always P operands made → Spell told operands made words op → P op
+always_holds P told [] made [] op all h = subst P h all
+always_holds P told [] made (word ∷ words) op all h = absurd h
+always_holds P told (o ∷ operands) made [] op all h = absurd h
+always_holds P told (o ∷ operands) made (word ∷ words) op all h = always_holds P told operands (made h.0) words op (all h.0) h.2
+
+-- what holds of each op of a form
+abbrev AlwaysOf : (Op → Type 0) → Form → Type 0
+AlwaysOf P (Row first operands made) = Always P operands made
+
+always_of : (P : Op → Type 0) (told : Known) (form : Form) (words : List (List ℕ)) (op : Op) → AlwaysOf P form → IsOfForm told form words op → P op
+always_of P told (Row first operands made) words op all h = always_holds P told operands made h.0 op all h.2
+
+-- each op that the form of an op makes has that form
+own_form : (op : Op) → AlwaysOf (λ made. form_of made ≡ form_of op) (form_of op)
+own_form (Work n) = λ m. refl
+own_form _ = search
+
+-- a form is found by its first word
+found : (op : Op) → option_map form_of (form_in (word_of op)) ≡ Some (form_of op)
+unfolding form_in
+found (Work n) = refl
+found _ = refl
+
+-- no line of a body begins with `end`
+not_end : (op : Op) (words : List (List ℕ)) → is_end (word_of op ∷ words) ≡ false
+unfolding is_end
+not_end (Work n) [] = refl
+not_end (Work n) (word ∷ words) = refl
+not_end _ [] = refl
+not_end _ (word ∷ words) = refl
+
+form_is_of : (ops : List Op) (word : List ℕ) (op : Op) → form_from ops word ≡ Some op → word_of op ≡ word
+form_is_of [] word op e = absurd cc
+form_is_of (first ∷ ops) word op e = go (bytes_eq (word_of first) word) refl e (form_is_of ops word op)
+  where
+    go : (b : Bool) → bytes_eq (word_of first) word ≡ b → cond b (Some first) (form_from ops word) ≡ Some op → (form_from ops word ≡ Some op → word_of op ≡ word) → word_of op ≡ word
+    go true same e later = let is : first ≡ op = cc in subst (λ (x : Op). word_of x ≡ word) is (text_is (word_of first) word same)
+    go false same e later = later e
+
+-- ---- lines of a body
+
+line_like_ok : (told : Known) (o : Option Op) (words : List (List ℕ)) (op : Op) → line_like told o words ≡ Ok op → (like : Op) × (o ≡ Some like) × IsOp told (word_of like ∷ words) op
+line_like_ok told None words op e = absurd cc
+line_like_ok told (Some like) words op e =
+    let is = form_ok told (form_of like) words op e in
+    let own : form_of op ≡ form_of like = always_of (λ made. form_of made ≡ form_of like) told (form_of like) (word_of like ∷ words) op (own_form like) is in
+    (like, refl, subst (λ (form : Form). IsOfForm told form (word_of like ∷ words) op) (sym own) is)
+
+-- what the machine takes as a line of a body is one
+pub op_ok : (told : Known) (words : List (List ℕ)) (op : Op) → op_line told words ≡ Ok op → IsOp told words op
+unfolding op_line form_in
+op_ok told [] op e = absurd cc
+op_ok told (first ∷ words) op e =
+    let k = line_like_ok told (form_from FORMS first) words op e in
+    subst (λ (word : List ℕ). IsOp told (word ∷ words) op) (form_is_of FORMS first k.0 k.1) k.2
+
+like_line : (told : Known) (o : Option Op) (form : Form) (words : List (List ℕ)) → option_map form_of o ≡ Some form → line_like told o words ≡ form_line told form words
+like_line told None form words e = absurd cc
+like_line told (Some op) form words e = let same : form_of op ≡ form = cc in ap (λ (f : Form). form_line told f words) same
+
+-- each line of a body is taken by the machine
+pub op_is : (told : Known) (words : List (List ℕ)) (op : Op) → IsOp told words op → op_line told words ≡ Ok op
+unfolding op_line
+op_is told words op h =
+    let line = form_is told (form_of op) words op h in
+    rw line.1 (like_line told (form_in (word_of op)) (form_of op) line.0 (found op) ∙ line.2)
+
+-- no line of a body is the end of it
+pub op_not_end : (told : Known) (words : List (List ℕ)) (op : Op) → IsOp told words op → is_end words ≡ false
+op_not_end told words op h =
+    let line = form_is told (form_of op) words op h in
+    rw line.1 (not_end op line.0)

@@ -1,0 +1,241 @@
+-- The words of operands and of init lines are those of the grammar exactly where the machine takes them.
+use Rattle.std.proofs.Common.{◌≡◌, ℕ, ◌≤◌, ◌<◌, Bool, true, false, eqb, cond, ◌⊎◌, inl, inr, List, [], ◌∷◌, length, Option, Some, None, Result, Ok, Err, refl, ap, subst, arith, codes, ◌&&◌}
+use Rattle.std.specs.Prelude.{nat_le, nat_lt}
+use Rattle.std.specs.Str.{bytes_eq}
+use Rattle.std.proofs.lemmas.Bool.{and_parts, eqb-true, leb-true, le-leb, ltb-true, lt-ltb, false_from_ne_true}
+use Rattle.std.proofs.lemmas.Slice.Eq.{bytes_eq-Decides}
+use Rattle.rk_model.specs.declared.numbers.Name.{Name as NameOf}
+use Rattle.rk_model.specs.declared.scenario.Op.{Op}
+use Rattle.rk_model.specs.declared.scenario.Target.{Target}
+use Rattle.rk_model.specs.declared.scenario.Target.TheVariants.{Var, Own, Given}
+use Rattle.rk_model.specs.declared.scenario.Body.{Body}
+use Rattle.rk_model.specs.declared.scenario.Init.{Init}
+use Rattle.rk_model.specs.declared.scenario.Scenario.{Scenario}
+use Rattle.rk_model.specs.declared.scenario.ScenarioWhy.{ScenarioWhy}
+use Rattle.rk_model.specs.declared.scenario.ScenarioWhy.TheVariants.{NotYetBuilt}
+use Rattle.rk_model.specs.Text.Words.{number_of, decimal_of, name_of, name0_of, var_of}
+use Rattle.rk_model.specs.Text.Scenarios.{Known, IsNumber, IsId, IsInit, IsEarlier, body_of, body_known, is_target}
+use Rattle.rk_model.specs.Text.Reading.{◌>>=◌, within, below, known, named, led, id_by, number_operand, cluster_operand, var_operand, fixed_operand, id_operand, goto_operand, name_operand, name0_operand, body_operand, start_operand, init_operands}
+
+-- ---- steps that are taken
+
+pub bind_ok : {A B : Type 0} (r : Result A ScenarioWhy) (f : A → Result B ScenarioWhy) (y : B) → (r >>= f) ≡ Ok y → (x : A) × (r ≡ Ok x) × (f x ≡ Ok y)
+bind_ok (Ok x) f y e = (x, refl, e)
+bind_ok (Err why) f y e = absurd cc
+
+pub then_ok : {A : Type 0} (b : Bool) (r : Result A ScenarioWhy) (why : ScenarioWhy) (y : A) → cond b r (Err why) ≡ Ok y → (b ≡ true) × (r ≡ Ok y)
+then_ok true r why y e = (refl, e)
+then_ok false r why y e = absurd cc
+
+pub else_ok : {A : Type 0} (b : Bool) (why : ScenarioWhy) (r : Result A ScenarioWhy) (y : A) → cond b (Err why) r ≡ Ok y → (b ≡ false) × (r ≡ Ok y)
+else_ok true why r y e = absurd cc
+else_ok false why r y e = (refl, e)
+
+pub either_ok : {A : Type 0} (b : Bool) (r t : Result A ScenarioWhy) (y : A) → cond b r t ≡ Ok y → ((b ≡ true) × (r ≡ Ok y)) ⊎ ((b ≡ false) × (t ≡ Ok y))
+either_ok true r t y e = inl (refl, e)
+either_ok false r t y e = inr (refl, e)
+
+abbrev done : {A : Type 0} → A → Result A ScenarioWhy
+done x = Ok x
+
+pub ok_is : {A : Type 0} (x y : A) → done x ≡ done y → x ≡ y
+ok_is x y e = cc
+
+pub text_is : (a b : List ℕ) → bytes_eq a b ≡ true → a ≡ b
+text_is a b e = (bytes_eq-Decides a b).0 e
+
+pub text_same : (a : List ℕ) → bytes_eq a a ≡ true
+text_same a = (bytes_eq-Decides a a).1 refl
+
+-- ---- operands
+
+within_ok : (least most : ℕ) (o : Option ℕ) (n : ℕ) → within least most o ≡ Ok n → (o ≡ Some n) × (least ≤ n) × (n ≤ most)
+within_ok least most None n e = absurd cc
+within_ok least most (Some m) n e =
+    let t = then_ok (nat_le least m && nat_le m most) (done m) NotYetBuilt n e in
+    let both = and_parts (nat_le least m) (nat_le m most) t.0 in
+    let same : m ≡ n = ok_is m n t.1 in
+    let low : least ≤ m = leb-true least m both.0 in
+    let high : m ≤ most = leb-true m most both.1 in
+    (ap (λ (k : ℕ). Some k) same, omega arith, omega arith)
+
+pub number_ok : (least most : ℕ) (word : List ℕ) (n : ℕ) → number_operand least most word ≡ Ok n → IsNumber word n least most
+unfolding number_operand
+number_ok least most word n e = let w = within_ok least most (number_of word) n e in record { value = w.0; low = w.1; high = w.2 }
+
+pub number_is : (least most : ℕ) (word : List ℕ) (n : ℕ) → IsNumber word n least most → number_operand least most word ≡ Ok n
+unfolding number_operand
+number_is least most word n h =
+    let low = le-leb least n h.low in
+    let high = le-leb n most h.high in
+    rw (h.value, low, high) refl
+
+below_ok : (count : ℕ) (o : Option ℕ) (n : ℕ) → below count o ≡ Ok n → (o ≡ Some n) × (n < count)
+below_ok count None n e = absurd cc
+below_ok count (Some m) n e =
+    let t = then_ok (nat_lt m count) (done m) NotYetBuilt n e in
+    let same : m ≡ n = ok_is m n t.1 in
+    let lt : m < count = ltb-true m count t.0 in
+    (ap (λ (k : ℕ). Some k) same, omega arith)
+
+cluster_ok : (count : ℕ) (word : List ℕ) (n : ℕ) → cluster_operand count word ≡ Ok n → (number_of word ≡ Some n) × (n < count)
+unfolding cluster_operand
+cluster_ok count word n e = below_ok count (number_of word) n e
+
+cluster_is : (count : ℕ) (word : List ℕ) (n : ℕ) → number_of word ≡ Some n → n < count → cluster_operand count word ≡ Ok n
+unfolding cluster_operand
+cluster_is count word n e lt = let test = lt-ltb n count lt in rw (e, test) refl
+
+self_no_number : (bits : ℕ) → number_of (codes "self") ≡ Some bits → ⊥
+unfolding number_of decimal_of
+self_no_number bits e = cc
+
+-- a word that spells a number isn't `self`
+number_not_self : (word : List ℕ) (bits : ℕ) → number_of word ≡ Some bits → bytes_eq word (codes "self") ≡ false
+number_not_self word bits e = false_from_ne_true (bytes_eq word (codes "self")) (λ same. self_no_number bits (subst (λ (w : List ℕ). number_of w ≡ Some bits) (text_is word (codes "self") same) e))
+
+fixed_ok : (word : List ℕ) (id : Target) → fixed_operand word ≡ Ok id → IsId word id
+unfolding fixed_operand
+fixed_ok word id e =
+    elim (either_ok (bytes_eq word (codes "self")) (done Own) (number_operand 0 4294967295 word >>= (λ bits. Ok (Given bits))) id e) [
+      | inl h ↦ subst (λ (i : Target). IsId word i) (ok_is Own id h.1) (text_is word (codes "self") h.0)
+      | inr h ↦
+          let b = bind_ok (number_operand 0 4294967295 word) (λ bits. Ok (Given bits)) id h.1 in
+          subst (λ (i : Target). IsId word i) (ok_is (Given b.0) id b.2) (number_ok 0 4294967295 word b.0 b.1)
+    ]
+
+-- what begins with a v spells no number
+v_no_number : (b bits : ℕ) → number_of (118 ∷ b ∷ []) ≡ Some bits → ⊥
+unfolding number_of decimal_of
+v_no_number b bits e = cc
+
+number_no_v : (a b bits : ℕ) → number_of (a ∷ b ∷ []) ≡ Some bits → eqb a 118 ≡ false
+number_no_v a b bits e = false_from_ne_true (eqb a 118) (λ same. v_no_number b bits (subst (λ (x : ℕ). number_of (x ∷ b ∷ []) ≡ Some bits) (eqb-true a 118 same) e))
+
+-- a word that spells a number spells no variable
+number_no_var : (word : List ℕ) (bits : ℕ) → number_of word ≡ Some bits → var_of word ≡ None
+unfolding number_of decimal_of var_of
+number_no_var [] bits e = refl
+number_no_var (a ∷ []) bits e = refl
+number_no_var (a ∷ b ∷ []) bits e = rw (number_no_v a b bits e) refl
+number_no_var (a ∷ b ∷ c ∷ more) bits e = refl
+
+id_by_ok : (o : Option ℕ) (other : Result Target ScenarioWhy) (id : Target) → id_by o other ≡ Ok id → ((var : ℕ) × (o ≡ Some var) × (Var var ≡ id)) ⊎ (other ≡ Ok id)
+id_by_ok None other id e = inr e
+id_by_ok (Some var) other id e = inl (var, refl, ok_is (Var var) id e)
+
+pub id_ok : (word : List ℕ) (id : Target) → id_operand word ≡ Ok id → IsId word id
+unfolding id_operand
+id_ok word id e =
+    elim (id_by_ok (var_of word) (fixed_operand word) id e) [
+      | inl h ↦ subst (λ (i : Target). IsId word i) h.2 h.1
+      | inr h ↦ fixed_ok word id h
+    ]
+
+pub id_is : (word : List ℕ) (id : Target) → IsId word id → id_operand word ≡ Ok id
+unfolding id_operand fixed_operand var_of
+id_is word (Var var) h = rw h refl
+id_is word Own h = rw h refl
+id_is word (Given bits) h = rw (number_no_var word bits h.value, number_not_self word bits h.value, number_is 0 4294967295 word bits h) refl
+
+led_ok : (earlier : List Op) (o : Option ℕ) (n : ℕ) → led earlier o ≡ Ok n → (o ≡ Some n) × (is_target earlier n ≡ true)
+led_ok earlier None n e = absurd cc
+led_ok earlier (Some m) n e =
+    let t = then_ok (is_target earlier m) (done m) NotYetBuilt n e in
+    let same : m ≡ n = ok_is m n t.1 in
+    (ap (λ (k : ℕ). Some k) same, subst (λ (k : ℕ). is_target earlier k ≡ true) same t.0)
+
+pub goto_ok : (earlier : List Op) (word : List ℕ) (n : ℕ) → goto_operand earlier word ≡ Ok n → IsEarlier earlier word n
+unfolding goto_operand
+goto_ok earlier word n e = let l = led_ok earlier (number_of word) n e in record { value = l.0; target = l.1 }
+
+pub goto_is : (earlier : List Op) (word : List ℕ) (n : ℕ) → IsEarlier earlier word n → goto_operand earlier word ≡ Ok n
+unfolding goto_operand
+goto_is earlier word n h = rw (h.value, h.target) refl
+
+known_ok : (o : Option ℕ) (n : ℕ) → known o ≡ Ok n → o ≡ Some n
+known_ok None n e = absurd cc
+known_ok (Some m) n e = ap (λ (k : ℕ). Some k) (ok_is m n e)
+
+named_ok : (o : Option ℕ) (name : NameOf) → named o ≡ Ok name → o ≡ Some name.bits
+named_ok None name e = absurd cc
+named_ok (Some n) name e = ap (λ (x : NameOf). Some x.bits) (ok_is (record { bits = n }) name e)
+
+pub name_ok : (word : List ℕ) (name : NameOf) → name_operand word ≡ Ok name → name_of word ≡ Some name.bits
+unfolding name_operand
+name_ok word name e = named_ok (name_of word) name e
+
+pub name_is : (word : List ℕ) (name : NameOf) → name_of word ≡ Some name.bits → name_operand word ≡ Ok name
+unfolding name_operand
+name_is word name e = rw e refl
+
+pub name0_ok : (word : List ℕ) (name : NameOf) → name0_operand word ≡ Ok name → name0_of word ≡ Some name.bits
+unfolding name0_operand
+name0_ok word name e = named_ok (name0_of word) name e
+
+pub name0_is : (word : List ℕ) (name : NameOf) → name0_of word ≡ Some name.bits → name0_operand word ≡ Ok name
+unfolding name0_operand
+name0_is word name e = rw e refl
+
+pub var_ok : (word : List ℕ) (n : ℕ) → var_operand word ≡ Ok n → var_of word ≡ Some n
+unfolding var_operand
+var_ok word n e = known_ok (var_of word) n e
+
+pub var_is : (word : List ℕ) (n : ℕ) → var_of word ≡ Some n → var_operand word ≡ Ok n
+unfolding var_operand
+var_is word n e = rw e refl
+
+pub start_ok : (told : Known) (word : List ℕ) (n : ℕ) → start_operand told word ≡ Ok n → body_known told.bodies told.own word ≡ Some n
+unfolding start_operand
+start_ok told word n e = known_ok (body_known told.bodies told.own word) n e
+
+pub start_is : (told : Known) (word : List ℕ) (n : ℕ) → body_known told.bodies told.own word ≡ Some n → start_operand told word ≡ Ok n
+unfolding start_operand
+start_is told word n e = rw e refl
+
+body_ok : (bodies : List Body) (word : List ℕ) (n : ℕ) → body_operand bodies word ≡ Ok n → body_of bodies word ≡ Some n
+unfolding body_operand
+body_ok bodies word n e = known_ok (body_of bodies word) n e
+
+body_is : (bodies : List Body) (word : List ℕ) (n : ℕ) → body_of bodies word ≡ Some n → body_operand bodies word ≡ Ok n
+unfolding body_operand
+body_is bodies word n e = rw e refl
+
+-- ---- init lines
+
+-- what the machine takes behind `init` are the words of an init line
+pub init_ok : (s : Scenario) (operands : List (List ℕ)) (init : Init) → init_operands s operands ≡ Ok init → IsInit s (codes "init" ∷ operands) init
+unfolding init_operands
+init_ok s [] init e = absurd cc
+init_ok s (name ∷ []) init e = absurd cc
+init_ok s (name ∷ cluster ∷ []) init e = absurd cc
+init_ok s (name ∷ cluster ∷ priority ∷ []) init e = absurd cc
+init_ok s (name ∷ cluster ∷ priority ∷ body ∷ []) init e =
+    let made : NameOf → ℕ → ℕ → ℕ → Init = λ called c p b. record { name = called; cluster = c; prio = p; body = b } in
+    let n = bind_ok (name_operand name) (λ called. cluster_operand (length s.clusters) cluster >>= (λ c. number_operand 1 255 priority >>= (λ p. body_operand s.bodies body >>= (λ b. Ok (made called c p b))))) init e in
+    let c = bind_ok (cluster_operand (length s.clusters) cluster) (λ c. number_operand 1 255 priority >>= (λ p. body_operand s.bodies body >>= (λ b. Ok (made n.0 c p b)))) init n.2 in
+    let p = bind_ok (number_operand 1 255 priority) (λ p. body_operand s.bodies body >>= (λ b. Ok (made n.0 c.0 p b))) init c.2 in
+    let b = bind_ok (body_operand s.bodies body) (λ b. Ok (made n.0 c.0 p.0 b)) init p.2 in
+    let home = cluster_ok (length s.clusters) cluster c.0 c.1 in
+    subst (λ (i : Init). IsInit s (codes "init" ∷ name ∷ cluster ∷ priority ∷ body ∷ []) i) {x = made n.0 c.0 p.0 b.0} (ok_is (made n.0 c.0 p.0 b.0) init b.2) (record {
+      name = name;
+      cluster = cluster;
+      priority = priority;
+      body = body;
+      words_are = refl;
+      name_is = name_ok name n.0 n.1;
+      cluster_is = home.0;
+      cluster_below = home.1;
+      priority_is = number_ok 1 255 priority p.0 p.1;
+      body_is = body_ok s.bodies body b.0 b.1;
+    })
+init_ok s (name ∷ cluster ∷ priority ∷ body ∷ more ∷ words) init e = absurd cc
+
+-- the words behind the first of an init line are taken by the machine
+pub init_is : (s : Scenario) (words : List (List ℕ)) (init : Init) → IsInit s words init → (operands : List (List ℕ)) × (words ≡ codes "init" ∷ operands) × (init_operands s operands ≡ Ok init)
+unfolding init_operands
+init_is s words init h = (
+  h.name ∷ h.cluster ∷ h.priority ∷ h.body ∷ [],
+  h.words_are,
+  rw (name_is h.name init.name h.name_is, cluster_is (length s.clusters) h.cluster init.cluster h.cluster_is h.cluster_below, number_is 1 255 h.priority init.prio h.priority_is, body_is s.bodies h.body init.body h.body_is) refl,
+)
