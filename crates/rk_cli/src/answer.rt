@@ -11,12 +11,10 @@ use crate::pieces::{push_decimal, push_text};
 use crate::schedule::{ends_with_end, write_schedule};
 use rk_io::{ReadError, Source, read_all};
 use rk_kernel::run_lowest;
+use rk_model::limits::MOST_BYTES;
 use rk_model::{NoMemory, Scenario, ScenarioWhy};
 use rk_scenario::{ScenarioError, read_scenario};
 use std::alloc::Global;
-
-/// The greatest number of bytes of an input.
-const MOST_BYTES: u64 = 1_048_576;
 
 /// What planning has to say.
 #[derive(Debug, Drop)]
@@ -82,7 +80,7 @@ pub(crate) fn plan_answer<S: Source>(alloc: Global, source: &mut S) -> Answer
     ensures taken { ConsumesPrefix (S.left source.old) (S.left source.new) }
     ensures later { S.faults source.old ≤ S.faults source.new }
 {
-    let input = match read_all(alloc, source, MOST_BYTES) {
+    let input = match read_all(alloc, source, MOST_BYTES as u64) {
         Ok(input) => input,
         Err(ReadError::Failed) => return Answer::ReadFault,
         Err(ReadError::Memory) => return Answer::NoMemory,

@@ -1,5 +1,6 @@
 -- Registers of changes, and what they do to a line.
 use Rattle.std.specs.Prelude.{ℕ, zero, suc, ◌+◌, List, [], ◌∷◌, ◌++◌, Option, Some, None, ◌==◌, if◌then◌else◌}
+use Rattle.rk_model.specs.declared.limits.TheConstants.{MOST_OBJECTS}
 use Rattle.rk_model.specs.Lists.{nth}
 use Rattle.rk_line.specs.declared.line.Place.{Place}
 use Rattle.rk_cluster.specs.declared.moves.Change.{Change}
@@ -53,11 +54,11 @@ ends_from changes t (suc n) = end_place t (changes t) ++ ends_from changes (t + 
 
 -- the places at the front of all threads
 unfoldable pub fronts : (ℕ → Option Change) → List Place
-fronts changes = fronts_from changes 1 64
+fronts changes = fronts_from changes 1 MOST_OBJECTS
 
 -- the places at the end of all threads
 unfoldable pub ends : (ℕ → Option Change) → List Place
-ends changes = ends_from changes 1 64
+ends changes = ends_from changes 1 MOST_OBJECTS
 
 -- what stays of a line, in its order
 abbrev pub kept_places : (ℕ → Option Change) → List Place → List Place

@@ -4,10 +4,11 @@ ghost use Rattle.rk_model.specs.Scheduling.ReadyQueues.{has_cpu, kept, filled, a
 ghost use Rattle.rk_cluster.specs.Clusters.{runners_of};
 
 use rk_line::Line;
+use rk_model::limits::MOST_PROCESSORS;
 use rk_model::{Bounded, Items, ThreadIx};
 
 /// As many threads as there are processors at most.
-pub(crate) type Few = Bounded<ThreadIx, 8>;
+pub(crate) type Few = Bounded<ThreadIx, MOST_PROCESSORS>;
 
 /// Whether the thread is in the list.
 fn contains(list: &[ThreadIx], thread: ThreadIx) -> bool

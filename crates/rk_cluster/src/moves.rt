@@ -5,6 +5,7 @@ ghost use Rattle.rk_cluster.specs.Passes.{changed_but_end, IsOut, EndsAreOut, Ar
 
 use crate::marks::{greatest, least, with, without};
 use rk_line::Line;
+use rk_model::limits::MOST_OBJECTS;
 use rk_model::{Items, NoMemory, Prio, ThreadIx};
 use std::alloc::Global;
 use std::marker::Model;
@@ -129,7 +130,7 @@ impl Moves {
     pub fn new(alloc: Global) -> Result<Moves, NoMemory>
         ensures { IfOk result (λ m. change_at m ≡ no_changes) }
     {
-        let changes = vec![in alloc; None; 64]?;
+        let changes = vec![in alloc; None; MOST_OBJECTS]?;
         Ok(Moves {
             changes: Items::from_vec(changes),
             marks: 0,

@@ -1,6 +1,7 @@
 -- The objects of a class, and what the calls on their ids answer.
 use Rattle.std.specs.Prelude.{ℕ, ◌+◌, ◌≤◌, ◌≡◌, List, ◌∷◌, Bool, true, false, ◌&&◌, ◌==◌, filter, Option, Some, None, if◌then◌else◌, nat_le}
 use Rattle.std.specs.List.{AllByRecursion}
+use Rattle.rk_model.specs.declared.limits.TheConstants.{MOST_OBJECTS}
 use Rattle.rk_model.specs.declared.ids.Class.{Class}
 use Rattle.rk_model.specs.declared.ids.Named.{Named}
 use Rattle.rk_model.specs.declared.ids.Id.{Id}
@@ -19,7 +20,7 @@ objects class names = record { class = class; names = names }
 
 -- Each index from 1 to 64 is that of one live object or is free once, and no other index is either.
 abbrev pub IsSplit : Names → Type 0
-IsSplit names = (index : ℕ) → times index (indices names.live) + times index names.free ≡ (if nat_le 1 index && nat_le index 64 then 1 else 0)
+IsSplit names = (index : ℕ) → times index (indices names.live) + times index names.free ≡ (if nat_le 1 index && nat_le index MOST_OBJECTS then 1 else 0)
 
 -- whether an object of this index lives
 abbrev pub lives_at : Objects → ℕ → Bool
@@ -31,7 +32,7 @@ pub record IsMade (bits name : ℕ) (old new : Objects) : Type 0 where
   pub free : List ℕ
   pub first : old.names.free ≡ index ∷ free
   pub low : 1 ≤ index
-  pub high : index ≤ 64
+  pub high : index ≤ MOST_OBJECTS
   pub id : bits ≡ id_of old.class index
   pub made : new ≡ objects old.class (taken old.names index free name)
 
@@ -53,7 +54,7 @@ has_name name object = object.name.bits == name
 pub record IsLeastNamed (bits name : ℕ) (all : Objects) : Type 0 where
   pub index : ℕ
   pub low : 1 ≤ index
-  pub high : index ≤ 64
+  pub high : index ≤ MOST_OBJECTS
   pub id : bits ≡ id_of all.class index
   pub named : has (indices (filter (has_name name) all.names.live)) index ≡ true
   pub least : AllByRecursion (λ (object : Named). has_name name object ≡ true → index ≤ object.index) all.names.live

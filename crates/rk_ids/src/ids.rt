@@ -5,6 +5,7 @@ ghost use Rattle.rk_model.specs.Names.{no_names, given_back, least_named, lesser
 ghost use Rattle.rk_ids.specs.declared.ids.IdError.TheVariants.{InvalidName, TooMany};
 ghost use Rattle.rk_ids.specs.LiveObjects.{objects, lives_at, live_index, optional_id, IsLeastNamed, NoneIsNamed, IsMade, IsSplit};
 
+use rk_model::limits::MOST_OBJECTS;
 use rk_model::{Bounded, Class, Id, Name, Named, NoMemory};
 use std::alloc::Global;
 use std::marker::Model;
@@ -23,8 +24,8 @@ pub enum IdError {
 #[derive(Debug, Drop)]
 pub struct Ids {
     class: Class,
-    live: Bounded<Named, 64>,
-    free: Bounded<u16, 64>,
+    live: Bounded<Named, MOST_OBJECTS>,
+    free: Bounded<u16, MOST_OBJECTS>,
 }
 
 impl Model for Ids {
@@ -132,11 +133,11 @@ impl Ids {
 }
 
 /// Puts the indices from 1 to 64 into an empty list, in order.
-fn free_all(free: &mut Bounded<u16, 64>)
+fn free_all(free: &mut Bounded<u16, MOST_OBJECTS>)
     requires { free.old ≡ [] }
     ensures { free.new ≡ range_with_len 1 64 }
 {
-    for before in 0..64 {
+    for before in 0..MOST_OBJECTS as u16 {
         free.push(before + 1);
     }
 }

@@ -1,5 +1,6 @@
 -- What holds of each state that a legal history leads to: of lines, runners and processors, and of refusals.
 use Rattle.std.specs.Prelude.{ℕ, ◌+◌, ◌<◌, ◌≤◌, ◌≡◌, ◌↔◌, ◌⊎◌, List, [], ◌∷◌, ◌++◌, Bool, true, false, ◌&&◌, ◌||◌, not, Option, Some, None, ◌==◌, length, if◌then◌else◌}
+use Rattle.rk_model.specs.declared.limits.TheConstants.{MOST_OBJECTS}
 use Rattle.rk_model.specs.declared.scenario.Scenario.{Scenario}
 use Rattle.rk_model.specs.declared.scenario.Op.{Op}
 use Rattle.rk_model.specs.declared.entry.Entry.{Entry}
@@ -73,7 +74,7 @@ NoneRunsTwice = AfterEach (λ k. (p q t : ℕ) → running k p ≡ Runs t → ru
 
 -- The names of a class: each index from 1 to 64 is that of one live object, once, or is free, once; and an object lives exactly where it has begun.
 pub record HasNames (k : Plain) (class : Class) : Type 0 where
-  pub once : (index : ℕ) → 1 ≤ index → index ≤ 64 → times index (indices (names_in k class).live) + times index (names_in k class).free ≡ 1
+  pub once : (index : ℕ) → 1 ≤ index → index ≤ MOST_OBJECTS → times index (indices (names_in k class).live) + times index (names_in k class).free ≡ 1
   pub begun : (index : ℕ) → is_live k class index ≡ begun_in k.threads class index
 
 -- It is so of each class after each legal history.

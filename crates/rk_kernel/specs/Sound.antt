@@ -1,6 +1,7 @@
 -- What holds of each state that a run of a scenario reaches.
 use Rattle.std.specs.Prelude.{ℕ, ◌+◌, ◌<◌, ◌≤◌, ◌≡◌, List, [], ◌∷◌, Bool, true, false, ◌&&◌, ◌==◌, Option, Some, None, length, All, filter, if◌then◌else◌}
 use Rattle.std.specs.List.{range_with_len}
+use Rattle.rk_model.specs.declared.limits.TheConstants.{MOST_CLUSTERS, MOST_PROCESSORS, MOST_OBJECTS, MOST_LINES, MOST_TICKS}
 use Rattle.rk_model.specs.declared.scenario.Scenario.{Scenario}
 use Rattle.rk_model.specs.declared.scenario.Op.{Op}
 use Rattle.rk_model.specs.declared.state.Thread.{Thread}
@@ -40,7 +41,7 @@ AreTimed threads c timers = (t : ℕ) → times_armed (OfThread t) timers ≤ (i
 
 -- a cluster of a state:
 pub record IsClusterSound (k : Plain) (c : ℕ) (cluster : ClusterState) : Type 0 where
-  pub few_cpus : length cluster.cpus ≤ 8
+  pub few_cpus : length cluster.cpus ≤ MOST_PROCESSORS
   -- its line has exactly its eligible threads, each once
   pub line : (t : ℕ) → times t cluster.line ≡ times t (own k c)
   -- its processors have threads of its line alone
@@ -88,8 +89,8 @@ place_of thread = record {
 pub record Fits (s : Scenario) (clusters present : ℕ) (x : Place) : Type 0 where
   pub home : x.home < clusters
   pub line : x.line ≤ 1001
-  pub working : 0 < x.left → x.line ≤ 1000
-  pub calling : x.in_call ≡ true → x.line ≤ 1000
+  pub working : 0 < x.left → x.line ≤ MOST_LINES
+  pub calling : x.in_call ≡ true → x.line ≤ MOST_LINES
   pub apart : 0 < x.left → x.in_call ≡ false
   -- with no work left it is where there is an action
   pub acts : x.left ≡ 0 → has_action (op_at s x.body x.line) ≡ true
@@ -103,11 +104,11 @@ IsInBounds s clusters present thread = Fits s clusters present (place_of thread)
 
 -- A state that a run may reach: sizes and numbers are within their limits, its bodies may be run, each thread is in bounds, each cluster is sound, and names and objects agree.
 pub record IsSound (k : Plain) : Type 0 where
-  pub places : length k.threads ≡ 64
-  pub few_clusters : length k.clusters ≤ 4
+  pub places : length k.threads ≡ MOST_OBJECTS
+  pub few_clusters : length k.clusters ≤ MOST_CLUSTERS
   pub some_cluster : 0 < length k.clusters
-  pub few_cpus : cpu_count k ≤ 8
-  pub horizon : k.scenario.horizon ≤ 1000000
+  pub few_cpus : cpu_count k ≤ MOST_PROCESSORS
+  pub horizon : k.scenario.horizon ≤ MOST_TICKS
   pub present : k.present ≤ k.scenario.horizon
   pub bodies : AreRunnable k.scenario.bodies
   pub threads : All (IsInBounds k.scenario (length k.clusters) k.present) k.threads

@@ -10,6 +10,7 @@ ghost use Rattle.rk_kernel.specs.SchedulingLaws.{RefusesAlone};
 use crate::clock::tick_core;
 use crate::opening::make_opening;
 use crate::steps::{CoreStep, CoreTick, step_core};
+use rk_model::limits::CLOCK;
 use rk_model::{Entry, History, NoMemory, Scenario, View, What};
 use rk_parts::core_state::Core;
 use rk_parts::processors::{count_cpus, least_of, view_on};
@@ -103,7 +104,7 @@ pub fn scenario_of(parts: &Parts) -> &Scenario
 pub fn replay(parts: &mut Parts, seat: u8)
     ensures { parts.new ≡ next_of parts.old (act parts.old seat) }
 {
-    if seat == 8 {
+    if seat == CLOCK {
         tick_all(parts);
     } else if seat < cpus_of(parts) {
         step_all(parts, seat);
@@ -123,7 +124,7 @@ fn entry_of_clock(what: What) -> Entry
     ensures { result ≡ clock_entry what }
 {
     Entry {
-        seat: 8,
+        seat: CLOCK,
         what,
         task: 0,
         body: 0,

@@ -1,6 +1,7 @@
 -- Lines as lists of places, each of which has a thread and its priority.
 use Rattle.std.specs.Prelude.{ℕ, ◌≡◌, ◌≤◌, true, List, [], ◌∷◌, ◌==◌, not, map, filter, count_by, nat_le, nat_lt, ◌+◌, if◌then◌else◌}
 use Rattle.std.specs.List.{slice_index_or}
+use Rattle.rk_model.specs.declared.limits.TheConstants.{MOST_OBJECTS}
 use Rattle.rk_model.specs.Lists.{has, times}
 use Rattle.rk_line.specs.declared.line.Place.{Place}
 
@@ -28,7 +29,7 @@ with_prio t prio line = map (with_prio_at t prio) line
 -- Each thread stands in the line once, and is one of 1 to 64.
 pub record IsLine (line : List Place) : Type 0 where
   pub once : (t : ℕ) → times t (threads line) ≤ 1
-  pub within : (t : ℕ) → has (threads line) t ≡ true → (1 ≤ t) × (t ≤ 64)
+  pub within : (t : ℕ) → has (threads line) t ≡ true → (1 ≤ t) × (t ≤ MOST_OBJECTS)
 
 -- the priority of a place of a line, from 0; 0 where it has no such place
 abbrev pub prio_at : List Place → ℕ → ℕ

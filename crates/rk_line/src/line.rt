@@ -4,6 +4,7 @@ ghost use Rattle.rk_model.specs.Lists.{has};
 ghost use Rattle.rk_model.specs.Scheduling.ReadyQueues.{nth_urgent};
 ghost use Rattle.rk_line.specs.Places.{threads, prio_in, without, with_prio, prio_at, more_urgent};
 
+use rk_model::limits::MOST_OBJECTS;
 use rk_model::{Bounded, NoMemory, Prio, ThreadIx};
 use std::alloc::Global;
 use std::marker::Model;
@@ -34,7 +35,7 @@ impl Place {
 /// places.
 #[derive(Debug, Drop)]
 pub struct Line {
-    places: Bounded<Place, 64>,
+    places: Bounded<Place, MOST_OBJECTS>,
 }
 
 impl Model for Line {

@@ -1,5 +1,6 @@
 -- What a running kernel stores beside what its state says: how the threads stood, the numbers of its clusters, and the priorities in their lines.
 use Rattle.std.specs.Prelude.{ℕ, ◌+◌, ◌≡◌, ◌≤◌, List, [], ◌∷◌, map, length}
+use Rattle.rk_model.specs.declared.limits.TheConstants.{MOST_CLUSTERS}
 use Rattle.rk_model.specs.declared.settling.Standing.{Standing}
 use Rattle.rk_model.specs.declared.state.Armed.{Armed}
 use Rattle.rk_model.specs.Lists.{has}
@@ -61,7 +62,7 @@ AllHeld stood c (cluster ∷ clusters) = ((t : ℕ) → has cluster.line t ≡ b
 
 -- A running kernel that can settle: its lines have the threads that belonged there when it settled last, with the priorities that they had then, and its clusters, of which there are at most four, and their processors are numbered from 0.
 pub record CanSettle (core : Core) : Type 0 where
-  pub few : length core.clusters ≤ 4
+  pub few : length core.clusters ≤ MOST_CLUSTERS
   pub lines : AllHeld core.threads.stood 0 (clusters_of core.clusters)
   pub keyed : AllKeyed (key_of core.threads.stood) (linings core.clusters)
   pub numbered : AreNumbered 0 0 (linings core.clusters)

@@ -1,5 +1,6 @@
 -- The threads of a running kernel, and how each stood when its state settled last.
 use Rattle.std.specs.Prelude.{ℕ, ◌≡◌, ◌≤◌, List, Bool, true, false, ◌&&◌, not, Some, None, replicate, if◌then◌else◌}
+use Rattle.rk_model.specs.declared.limits.TheConstants.{MOST_OBJECTS}
 use Rattle.rk_model.specs.declared.settling.Standing.{Standing}
 use Rattle.rk_model.specs.declared.state.Thread.{Thread}
 use Rattle.rk_model.specs.Lists.{has, nth, times}
@@ -13,7 +14,7 @@ pub record Threads : Type 0 where
 
 -- places for 64 threads
 abbrev pub no_threads : Threads
-no_threads = record { places = replicate 64 no_thread; stood = replicate 64 no_standing }
+no_threads = record { places = replicate MOST_OBJECTS no_thread; stood = replicate MOST_OBJECTS no_standing }
 
 -- whether a thread is eligible by itself
 abbrev pub is_ready : Thread → Bool
@@ -26,7 +27,7 @@ own_standing thread = record { cluster = if is_ready thread then Some thread.hom
 -- each of these is one of the 64 threads and stands there once
 pub record AreApart (marked : List ℕ) : Type 0 where
   pub once : (t : ℕ) → times t marked ≤ 1
-  pub within : (t : ℕ) → has marked t ≡ true → (1 ≤ t) × (t ≤ 64)
+  pub within : (t : ℕ) → has marked t ≡ true → (1 ≤ t) × (t ≤ MOST_OBJECTS)
 
 -- all threads but these stand as is noted
 abbrev pub StandAsNoted : List ℕ → List Standing → List Thread → Type 0

@@ -1,10 +1,11 @@
 use crate::table::Table;
 use crate::threads::Threads;
 use rk_cluster::{Cluster, Moves};
+use rk_model::limits::MOST_OBJECTS;
 use rk_model::{Armed, Bounded, Items, Scenario};
 
 /// The armed timers of a cluster's threads, of which each has at most one.
-pub type Timers = Bounded<Armed, 64>;
+pub type Timers = Bounded<Armed, MOST_OBJECTS>;
 
 /// A cluster of the running kernel.
 #[derive(Debug, Drop)]

@@ -9,12 +9,13 @@ ghost use Rattle.rk_model.specs.Scheduling.Priorities.{nth_standing};
 ghost use Rattle.rk_parts.specs.Threads.{no_threads, own_standing, AreApart, StandAsNoted};
 
 use crate::standing::{not_standing, own};
+use rk_model::limits::MOST_OBJECTS;
 use rk_model::{Bounded, Items, NoMemory, Standing, Thread, ThreadIx};
 use std::alloc::Global;
 use std::marker::Model;
 
 /// Threads, each of which stands there once.
-type Marked = Bounded<ThreadIx, 64>;
+type Marked = Bounded<ThreadIx, MOST_OBJECTS>;
 
 /// The places of the 64 threads. Contracts see the threads, and how each stood when the state settled
 /// last.
@@ -99,8 +100,8 @@ impl Threads {
     pub fn new(alloc: Global) -> Result<Threads, NoMemory>
         ensures { IfOk result (λ threads. threads ≡ no_threads) }
     {
-        let places = vec![in alloc; Thread::absent(); 64]?;
-        let stood = vec![in alloc; not_standing(); 64]?;
+        let places = vec![in alloc; Thread::absent(); MOST_OBJECTS]?;
+        let stood = vec![in alloc; not_standing(); MOST_OBJECTS]?;
         Ok(Threads {
             places: Items::from_vec(places),
             stood: Items::from_vec(stood),

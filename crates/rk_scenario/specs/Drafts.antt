@@ -1,5 +1,6 @@
 -- What has been read so far, as the code has it, and what taking a line does to it.
 use Rattle.std.specs.Prelude.{ℕ, ◌≡◌, ◌≤◌, Result, Ok, Err, length}
+use Rattle.rk_model.specs.declared.limits.TheConstants.{MOST_CLUSTERS, MOST_PROCESSORS, MOST_LINES}
 use Rattle.rk_model.specs.declared.scenario.ScenarioWhy.{ScenarioWhy}
 use Rattle.rk_model.specs.Text.Scenarios.{cpus_in}
 use Rattle.rk_model.specs.Text.Reading as reading
@@ -31,10 +32,10 @@ Takes (Err errors.Memory) step new = Unit {0}
 
 -- There are at most four clusters with at most 8 processors in all, and at most so many whole bodies; the open one has at most 1,000 lines.
 pub record HasAtMost (most : ℕ) (d : Draft) : Type 0 where
-  pub clusters : length d.scenario.clusters ≤ 4
-  pub cpus : cpus_in d.scenario.clusters ≤ 8
+  pub clusters : length d.scenario.clusters ≤ MOST_CLUSTERS
+  pub cpus : cpus_in d.scenario.clusters ≤ MOST_PROCESSORS
   pub bodies : length d.scenario.bodies ≤ most
-  pub lines : length d.body.lines ≤ 1000
+  pub lines : length d.body.lines ≤ MOST_LINES
 
 -- how many whole bodies there are at most at a phase: an open one has its place
 abbrev pub most_bodies : Phase → ℕ

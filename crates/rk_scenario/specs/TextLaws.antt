@@ -1,6 +1,7 @@
 -- What holds of texts and their scenarios.
 use Rattle.std.specs.Prelude.{ℕ, ◌+◌, ◌-◌, ◌<◌, ◌≤◌, ◌≡◌, ◌↔◌, ◌⊎◌, true, not, List, ◌++◌, length, map, filter, take, Some, None, IfSome, slice_get}
 use Rattle.std.specs.List.{AllByRecursion}
+use Rattle.rk_model.specs.declared.limits.TheConstants.{MOST_BYTES}
 use Rattle.rk_model.specs.declared.scenario.Scenario.{Scenario}
 use Rattle.rk_model.specs.declared.scenario.ScenarioWhy.TheVariants.{Header, TooLarge}
 use Rattle.rk_model.specs.Text.Words.{lines_of, words_of, is_plain, is_skipped}
@@ -41,7 +42,7 @@ pub record IsFirstStop (lines : List (List ℕ)) (line : ℕ) : Type 0 where
 -- A fault is that of the whole text where it is too large, and else it is at the first line at which no text goes on.
 abbrev pub FaultsAtFirstStop : Type 0
 FaultsAtFirstStop = (bytes : List ℕ) (fault : Fault) → scenario_fault bytes ≡ Some fault
-    → ((1048576 < length bytes) × (fault.line ≡ 0)) ⊎ ((length bytes ≤ 1048576) × IsFirstStop (lines_of bytes) fault.line)
+    → ((MOST_BYTES < length bytes) × (fault.line ≡ 0)) ⊎ ((length bytes ≤ MOST_BYTES) × IsFirstStop (lines_of bytes) fault.line)
 
 -- The header is due behind so many lines: each of them is skipped, and the next line is missing or consists of allowed bytes.
 pub record IsHeaderDue (lines : List (List ℕ)) (count : ℕ) : Type 0 where
@@ -50,8 +51,8 @@ pub record IsHeaderDue (lines : List (List ℕ)) (count : ℕ) : Type 0 where
 
 -- A fault has the reason `TooLarge` exactly where the text is larger than 1,048,576 bytes. In any other text it has the reason `Header` exactly where the header is due behind the lines in front of the fault's line. In every other case, therefore, its reason is `NotYetBuilt`.
 pub record HasItsReason (bytes : List ℕ) (fault : Fault) : Type 0 where
-  pub large : (fault.why ≡ TooLarge) ↔ (1048576 < length bytes)
-  pub header : length bytes ≤ 1048576 → (fault.why ≡ Header) ↔ IsHeaderDue (lines_of bytes) (fault.line - 1)
+  pub large : (fault.why ≡ TooLarge) ↔ (MOST_BYTES < length bytes)
+  pub header : length bytes ≤ MOST_BYTES → (fault.why ≡ Header) ↔ IsHeaderDue (lines_of bytes) (fault.line - 1)
 
 -- Each fault has its reason.
 abbrev pub FaultsHaveTheirReasons : Type 0

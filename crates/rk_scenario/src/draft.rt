@@ -9,6 +9,10 @@ use crate::operands::{
 };
 use crate::ops::read_op;
 use crate::words::{Word, is_skipped};
+use rk_model::limits::{
+    LEAST_URGENT, MOST_BODIES, MOST_CLUSTERS, MOST_ENTRIES, MOST_LINES, MOST_OBJECTS,
+    MOST_PROCESSORS, MOST_TICKS, USUAL_ENTRIES,
+};
 use rk_model::{Body, Init, Items, Prio, Scenario, ScenarioWhy};
 use std::alloc::Global;
 
@@ -94,7 +98,7 @@ fn has_room(clusters: &[u8], count: u8) -> bool
     requires count { count ≤ 8 }
     ensures { result ≡ (nat_lt (length clusters.now) 4 && nat_le (cpus_in clusters.now + count) 8) }
 {
-    clusters.len() < 4 && cpus_in(clusters) + count <= 8
+    clusters.len() < MOST_CLUSTERS && cpus_in(clusters) + count <= MOST_PROCESSORS as u8
 }
 
 /// What the words behind `init` stand for.
@@ -108,7 +112,7 @@ fn read_init(scenario: &Scenario, operands: &[Word]) -> Result<Init, ScenarioWhy
         [name, cluster, priority, body] => {
             let name = name_operand(name.as_slice())?;
             let cluster = cluster_operand(scenario.clusters.len(), cluster.as_slice())?;
-            let level = number_operand(1, 255, priority.as_slice())?;
+            let level = number_operand(1, u32::from(LEAST_URGENT), priority.as_slice())?;
             let body = body_operand(scenario.bodies.as_slice(), body.as_slice())?;
             Ok(Init {
                 name,
@@ -132,7 +136,7 @@ impl Draft {
             scenario: Scenario {
                 clusters: Items::new(alloc),
                 horizon: 0,
-                limit: 200_000,
+                limit: USUAL_ENTRIES,
                 bodies: Items::new(alloc),
                 inits: Items::new(alloc),
             },
@@ -163,7 +167,7 @@ impl Draft {
     {
         match operands {
             [count] => {
-                let count = number_operand(1, 8, count.as_slice())?;
+                let count = number_operand(1, MOST_PROCESSORS as u32, count.as_slice())?;
                 if has_room(self.scenario.clusters.as_slice(), count as u8) {
                     self.scenario.clusters.push(count as u8)?;
                     self.phase = Phase::Clustered;
@@ -185,7 +189,7 @@ impl Draft {
     {
         match operands {
             [ticks] => {
-                let ticks = number_operand(0, 1_000_000, ticks.as_slice())?;
+                let ticks = number_operand(0, MOST_TICKS, ticks.as_slice())?;
                 self.scenario.horizon = ticks;
                 self.phase = Phase::Timed;
                 Ok(())
@@ -203,7 +207,7 @@ impl Draft {
     {
         match operands {
             [number] => {
-                let number = number_operand(1, 1_000_000, number.as_slice())?;
+                let number = number_operand(1, MOST_ENTRIES, number.as_slice())?;
                 self.scenario.limit = number;
                 self.phase = Phase::Limited;
                 Ok(())
@@ -226,7 +230,7 @@ impl Draft {
                     Err(LineError::Fault(ScenarioWhy::NotYetBuilt))
                 } else if body_number(self.scenario.bodies.as_slice(), name).is_some() {
                     Err(LineError::Fault(ScenarioWhy::NotYetBuilt))
-                } else if self.scenario.bodies.len() < 32 {
+                } else if self.scenario.bodies.len() < MOST_BODIES {
                     self.body = Body {
                         name: Items::from_slice(alloc, name)?,
                         lines: Items::new(alloc),
@@ -262,7 +266,7 @@ impl Draft {
         ensures small { OnOk result (IsSmall self.new) }
     {
         let op = read_op(&self.scenario, &self.body, words)?;
-        if self.body.lines.len() < 1000 {
+        if self.body.lines.len() < MOST_LINES {
             self.body.lines.push(op)?;
             Ok(())
         } else {
@@ -278,7 +282,7 @@ impl Draft {
         ensures small { OnOk result (IsSmall self.new) }
     {
         let init = read_init(&self.scenario, operands)?;
-        if self.scenario.inits.len() < 64 {
+        if self.scenario.inits.len() < MOST_OBJECTS {
             self.scenario.inits.push(init)?;
             self.phase = Phase::InInits;
             Ok(())

@@ -7,6 +7,7 @@ use crate::operands::{
     start_operand, var_operand,
 };
 use crate::words::Word;
+use rk_model::limits::MOST_TICKS;
 use rk_model::{Body, Op, Scenario, ScenarioWhy};
 
 /// What a line of an open body stands for behind the lines that this has so far, by its words.
@@ -61,7 +62,7 @@ fn read_one(scenario: &Scenario, body: &Body, form: Op, a: &[u8]) -> Result<Op, 
     ensures { result ≡ form_line (known_at scenario.now body.now) (form_of form) (a.now ∷ []) }
 {
     match form {
-        Op::Work(_) => Ok(Op::Work(number_operand(1, 1_000_000, a)?)),
+        Op::Work(_) => Ok(Op::Work(number_operand(1, MOST_TICKS, a)?)),
         Op::Goto(_) => Ok(Op::Goto(goto_operand(body.lines.as_slice(), a)?)),
         Op::TaskSuspend(_) => Ok(Op::TaskSuspend(id_operand(a)?)),
         Op::TaskResume(_) => Ok(Op::TaskResume(id_operand(a)?)),

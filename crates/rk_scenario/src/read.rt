@@ -10,11 +10,9 @@ use crate::draft::{Draft, Phase};
 use crate::errors::{LineError, ScenarioError};
 use crate::lines::split_line;
 use crate::words::{find_words, is_plain};
+use rk_model::limits::MOST_BYTES;
 use rk_model::{Scenario, ScenarioWhy};
 use std::alloc::Global;
-
-/// The greatest number of bytes of a text.
-const MOST_BYTES: usize = 1_048_576;
 
 /// Takes a line.
 #[tactic(auto, unfolding(rk_model::specs::Text::Reading::after_line))]

@@ -14,6 +14,7 @@ ghost use Rattle.rk_parts.specs.Pinned.{stored};
 
 use crate::directives::objects::{create, ident, remove};
 use crate::directives::outcomes::{begin_limited, done, value_in};
+use rk_model::limits::LEAST_URGENT;
 use rk_model::{
     Answer, Armer, Class, Id, Life, Name, Prio, Status, Target, Thread, ThreadIx, Wait,
 };
@@ -84,7 +85,7 @@ fn dormant_in(home: u8, base: Prio) -> Thread
 fn prio_refusal(prio: u32) -> Option<Status>
     ensures { result ≡ prio_refusal prio }
 {
-    if prio == 0 || 255 < prio {
+    if prio == 0 || u32::from(LEAST_URGENT) < prio {
         Some(Status::InvalidPriority)
     } else {
         None
@@ -230,7 +231,7 @@ pub(crate) fn task_set_priority(core: &mut Core, caller: ThreadIx, id: Target, p
     match task_named(core, caller, id) {
         None => Answer::Refused(Status::InvalidId),
         Some(task) => {
-            if 255 < prio {
+            if u32::from(LEAST_URGENT) < prio {
                 return Answer::Refused(Status::InvalidPriority);
             }
             let before = u32::from(prio_at_home(core, task).level());

@@ -1,5 +1,6 @@
 -- The directives of the task manager.
 use Rattle.std.specs.Prelude.{ℕ, List, Bool, true, false, ◌||◌, nat_lt, Option, Some, None, ◌==◌, if◌then◌else◌}
+use Rattle.rk_model.specs.declared.limits.TheConstants.{LEAST_URGENT}
 use Rattle.rk_model.specs.declared.status.Status.{Status}
 use Rattle.rk_model.specs.declared.status.Status.TheVariants.{Successful, TaskExitted, IncorrectState, AlreadySuspended, InvalidPriority}
 use Rattle.rk_model.specs.declared.ids.Class.{Class}
@@ -46,7 +47,7 @@ dormant_in home prio = record no_thread { life = Dormant; home = home; base = pr
 
 -- why a task can't be created with a priority, if it can't
 abbrev pub prio_refusal : ℕ → Option Status
-prio_refusal prio = if (prio == 0) || nat_lt 255 prio then Some InvalidPriority else None
+prio_refusal prio = if (prio == 0) || nat_lt LEAST_URGENT prio then Some InvalidPriority else None
 
 -- task.create (rtems_task_create): INVALID_NAME where the name is 0; INVALID_PRIORITY where the priority is 0 or above 255; TOO_MANY where 64 tasks live; else a dormant task with the caller's home, which isn't suspended and whose variables are all 0. Out: its id.
 abbrev pub task_create : Plain → ℕ → ℕ → ℕ → Outcome
@@ -95,7 +96,7 @@ with_base k u prio = put_thread k u (record (thread_at k u) { base = prio })
 abbrev pub task_set_priority : Plain → ℕ → Target → ℕ → Outcome
 task_set_priority k t id prio =
     on_found (task_named k t id) (λ u.
-    if nat_lt 255 prio then Refused InvalidPriority
+    if nat_lt LEAST_URGENT prio then Refused InvalidPriority
     else (if prio == 0 then done (home_prio k u) k
     else Done Successful (home_prio k u) (with_base k u prio) (Some u)))
 

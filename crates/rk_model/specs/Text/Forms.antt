@@ -1,6 +1,7 @@
 -- The forms of the lines of a body, a row for each: its first word, its operands, and the op that their values make.
 use Rattle.std.specs.Prelude.{ℕ, List, [], ◌∷◌, Option, Some, None, codes, if◌then◌else◌}
 use Rattle.std.specs.Str.{bytes_eq}
+use Rattle.rk_model.specs.declared.limits.TheConstants.{MOST_TICKS}
 use Rattle.rk_model.specs.declared.forms.TheConstants.{FORMS}
 use Rattle.rk_model.specs.declared.numbers.Name.{Name as NameOf}
 use Rattle.rk_model.specs.declared.scenario.Target.{Target}
@@ -49,7 +50,7 @@ pub data Form : Type 0 where
 
 -- the form of the line of each op
 abbrev pub form_of : Op → Form
-form_of (Work n) = Row (codes "work") (Number 1 1000000 ∷ []) Work
+form_of (Work n) = Row (codes "work") (Number 1 MOST_TICKS ∷ []) Work
 form_of (Goto target) = Row (codes "goto") (Earlier ∷ []) Goto
 form_of (TaskCreate name prio var) = Row (codes "task.create") (Name0 ∷ Any ∷ Var ∷ []) TaskCreate
 form_of (TaskIdent name var) = Row (codes "task.ident") (Name ∷ Var ∷ []) TaskIdent

@@ -1,6 +1,7 @@
 -- The machine by which a scenario's text is gone through, line by line, and the first fault that it meets.
 use Rattle.std.specs.Prelude.{ℕ, ◌+◌, List, [], ◌∷◌, ◌++◌, Bool, true, false, ◌&&◌, not, Option, Some, None, Result, Ok, Err, is_some, nat_lt, nat_le, length, codes, if◌then◌else◌}
 use Rattle.std.specs.Str.{bytes_eq}
+use Rattle.rk_model.specs.declared.limits.TheConstants.{LEAST_URGENT, MOST_BODIES, MOST_BYTES, MOST_CLUSTERS, MOST_ENTRIES, MOST_LINES, MOST_OBJECTS, MOST_PROCESSORS, MOST_TICKS, USUAL_ENTRIES}
 use Rattle.rk_model.specs.declared.scenario.Op.{Op}
 use Rattle.rk_model.specs.declared.numbers.Name.{Name as NameOf}
 use Rattle.rk_model.specs.declared.scenario.Target.{Target}
@@ -45,7 +46,7 @@ no_body = record { name = []; lines = [] }
 abbrev pub start : Draft
 start = record {
   phase = Start;
-  scenario = record { clusters = []; horizon = 0; limit = 200000; bodies = []; inits = [] };
+  scenario = record { clusters = []; horizon = 0; limit = USUAL_ENTRIES; bodies = []; inits = [] };
   body = no_body;
 }
 
@@ -190,15 +191,15 @@ with_cluster d m = record d { phase = Clustered; scenario = record d.scenario { 
 unfoldable pub cluster_line : Draft → List (List ℕ) → Result Draft ScenarioWhy
 cluster_line d [] = Err NotYetBuilt
 cluster_line d (count ∷ []) = do
-  m ← number_operand 1 8 count
-  if nat_lt (length d.scenario.clusters) 4 && nat_le (cpus_in d.scenario.clusters + m) 8 then Ok (with_cluster d m) else Err NotYetBuilt
+  m ← number_operand 1 MOST_PROCESSORS count
+  if nat_lt (length d.scenario.clusters) MOST_CLUSTERS && nat_le (cpus_in d.scenario.clusters + m) MOST_PROCESSORS then Ok (with_cluster d m) else Err NotYetBuilt
 cluster_line d (count ∷ more ∷ words) = Err NotYetBuilt
 
 -- `ticks N`
 unfoldable pub ticks_line : Draft → List (List ℕ) → Result Draft ScenarioWhy
 ticks_line d [] = Err NotYetBuilt
 ticks_line d (ticks ∷ []) = do
-  n ← number_operand 0 1000000 ticks
+  n ← number_operand 0 MOST_TICKS ticks
   Ok (record d { phase = Timed; scenario = record d.scenario { horizon = n } })
 ticks_line d (ticks ∷ more ∷ words) = Err NotYetBuilt
 
@@ -206,7 +207,7 @@ ticks_line d (ticks ∷ more ∷ words) = Err NotYetBuilt
 unfoldable pub limit_line : Draft → List (List ℕ) → Result Draft ScenarioWhy
 limit_line d [] = Err NotYetBuilt
 limit_line d (number ∷ []) = do
-  n ← number_operand 1 1000000 number
+  n ← number_operand 1 MOST_ENTRIES number
   Ok (record d { phase = Limited; scenario = record d.scenario { limit = n } })
 limit_line d (number ∷ more ∷ words) = Err NotYetBuilt
 
@@ -216,7 +217,7 @@ body_line d [] = Err NotYetBuilt
 body_line d (name ∷ []) =
     if not (is_body_name name) then Err NotYetBuilt
     else (if is_some (body_of d.scenario.bodies name) then Err NotYetBuilt
-    else (if nat_lt (length d.scenario.bodies) 32 then Ok (record d { phase = InBody; body = record { name = name; lines = [] } })
+    else (if nat_lt (length d.scenario.bodies) MOST_BODIES then Ok (record d { phase = InBody; body = record { name = name; lines = [] } })
     else Err NotYetBuilt))
 body_line d (name ∷ more ∷ words) = Err NotYetBuilt
 
@@ -242,7 +243,7 @@ known_at s body = record { clusters = length s.clusters; bodies = s.bodies; own 
 unfoldable pub inner_line : Draft → List (List ℕ) → Result Draft ScenarioWhy
 inner_line d words = do
   op ← op_line (known_at d.scenario d.body) words
-  if nat_lt (length d.body.lines) 1000 then Ok (with_op d op) else Err NotYetBuilt
+  if nat_lt (length d.body.lines) MOST_LINES then Ok (with_op d op) else Err NotYetBuilt
 
 -- what the words behind `init` stand for
 unfoldable pub init_operands : Scenario → List (List ℕ) → Result Init ScenarioWhy
@@ -253,7 +254,7 @@ init_operands s (name ∷ cluster ∷ priority ∷ []) = Err NotYetBuilt
 init_operands s (name ∷ cluster ∷ priority ∷ body ∷ []) = do
   called ← name_operand name
   c ← cluster_operand (length s.clusters) cluster
-  p ← number_operand 1 255 priority
+  p ← number_operand 1 LEAST_URGENT priority
   b ← body_operand s.bodies body
   Ok (record { name = called; cluster = c; prio = p; body = b })
 init_operands s (name ∷ cluster ∷ priority ∷ body ∷ more ∷ words) = Err NotYetBuilt
@@ -266,7 +267,7 @@ with_init d init = record d { phase = InInits; scenario = record d.scenario { in
 unfoldable pub init_line : Draft → List (List ℕ) → Result Draft ScenarioWhy
 init_line d operands = do
   init ← init_operands d.scenario operands
-  if nat_lt (length d.scenario.inits) 64 then Ok (with_init d init) else Err NotYetBuilt
+  if nat_lt (length d.scenario.inits) MOST_OBJECTS then Ok (with_init d init) else Err NotYetBuilt
 
 -- ---- what may come at each phase: the draft after a line of these words
 
@@ -355,7 +356,7 @@ verdict_from d n (line ∷ lines) = goes_on (after_line d line) n (λ next. verd
 
 -- the verdict on a text
 abbrev pub verdict : List ℕ → Verdict
-verdict bytes = if nat_lt 1048576 (length bytes) then Faults (record { line = 0; why = TooLarge }) else verdict_from start 1 (lines_of bytes)
+verdict bytes = if nat_lt MOST_BYTES (length bytes) then Faults (record { line = 0; why = TooLarge }) else verdict_from start 1 (lines_of bytes)
 
 -- the fault of a verdict
 abbrev pub fault_in : Verdict → Option Fault

@@ -2,6 +2,7 @@
 use Rattle.std.specs.Prelude.{ℕ, zero, suc, ◌+◌, ◌≡◌, ◌≤◌, ◌<◌, List, [], ◌∷◌, ◌++◌, Bool, true, false, not, Option, Some, None, slice_get, length, codes, map, filter, if◌then◌else◌}
 use Rattle.std.specs.List.{AllByRecursion}
 use Rattle.std.specs.Str.{bytes_eq}
+use Rattle.rk_model.specs.declared.limits.TheConstants.{LEAST_URGENT, MOST_BODIES, MOST_BYTES, MOST_CLUSTERS, MOST_ENTRIES, MOST_LINES, MOST_OBJECTS, MOST_PROCESSORS, MOST_TICKS, USUAL_ENTRIES}
 use Rattle.rk_model.specs.declared.scenario.Op.{Op}
 use Rattle.rk_model.specs.Directives.Lines.{kind_of, is_place}
 use Rattle.rk_model.specs.declared.scenario.Target.{Target}
@@ -113,7 +114,7 @@ pub record IsBody (clusters : ℕ) (bodies : List Body) (told : List (List (List
   pub inner : List (List (List ℕ))
   pub told_is : told ≡ (codes "body" ∷ body.name ∷ []) ∷ inner ++ (codes "end" ∷ []) ∷ []
   pub name : is_body_name body.name ≡ true
-  pub few : length body.lines ≤ 1000
+  pub few : length body.lines ≤ MOST_LINES
   pub ops : AreOps (record { clusters = clusters; bodies = bodies; own = body.name; earlier = [] }) inner body.lines
 
 -- The lines are those of the bodies behind others, one after another, where there are so many clusters.
@@ -137,7 +138,7 @@ pub record IsInit (s : Scenario) (words : List (List ℕ)) (init : Init) : Type 
   pub name_is : name_of name ≡ Some init.name.bits
   pub cluster_is : number_of cluster ≡ Some init.cluster
   pub cluster_below : init.cluster < length s.clusters
-  pub priority_is : IsNumber priority init.prio 1 255
+  pub priority_is : IsNumber priority init.prio 1 LEAST_URGENT
   pub body_is : body_of s.bodies body ≡ Some init.body
 
 -- The lines are those of the inits, one each.
@@ -149,7 +150,7 @@ AreInits s (words ∷ told) (init ∷ inits) = IsInit s words init × AreInits s
 
 -- The words are those of a line `cluster M`.
 abbrev pub IsCluster : List (List ℕ) → ℕ → Type 0
-IsCluster words m = (count : List ℕ) × (words ≡ codes "cluster" ∷ count ∷ []) × IsNumber count m 1 8
+IsCluster words m = (count : List ℕ) × (words ≡ codes "cluster" ∷ count ∷ []) × IsNumber count m 1 MOST_PROCESSORS
 
 -- The lines are those of the clusters, one each.
 abbrev pub AreClusters : List (List (List ℕ)) → List ℕ → Type 0
@@ -167,12 +168,12 @@ cpus_in (m ∷ ms) = m + cpus_in ms
 pub record IsTicks (words : List (List ℕ)) (horizon : ℕ) : Type 0 where
   pub ticks : List ℕ
   pub words_are : words ≡ codes "ticks" ∷ ticks ∷ []
-  pub number : IsNumber ticks horizon 0 1000000
+  pub number : IsNumber ticks horizon 0 MOST_TICKS
 
 -- The lines are one line `limit N`, or none, and then the limit is 200,000.
 abbrev pub IsLimit : List (List (List ℕ)) → ℕ → Type 0
-IsLimit [] limit = limit ≡ 200000
-IsLimit (words ∷ []) limit = (number : List ℕ) × (words ≡ codes "limit" ∷ number ∷ []) × IsNumber number limit 1 1000000
+IsLimit [] limit = limit ≡ USUAL_ENTRIES
+IsLimit (words ∷ []) limit = (number : List ℕ) × (words ≡ codes "limit" ∷ number ∷ []) × IsNumber number limit 1 MOST_ENTRIES
 IsLimit (words ∷ more ∷ told) limit = ⊥
 
 -- The lines, in this order: `rtems 1`; one to four clusters with at most 8 processors in all; `ticks N`; at most one `limit N`; at most 32 bodies with different names; at most 64 init lines.
@@ -185,19 +186,19 @@ pub record Tells (told : List (List (List ℕ))) (s : Scenario) : Type 0 where
   pub told_is : told ≡ (codes "rtems" ∷ codes "1" ∷ []) ∷ clusters ++ ticks ∷ limits ++ bodies ++ inits
   pub clusters_are : AreClusters clusters s.clusters
   pub some_cluster : 0 < length s.clusters
-  pub few_clusters : length s.clusters ≤ 4
-  pub few_cpus : cpus_in s.clusters ≤ 8
+  pub few_clusters : length s.clusters ≤ MOST_CLUSTERS
+  pub few_cpus : cpus_in s.clusters ≤ MOST_PROCESSORS
   pub ticks_are : IsTicks ticks s.horizon
   pub limit_is : IsLimit limits s.limit
   pub bodies_are : AreBodies (length s.clusters) [] bodies s.bodies
-  pub few_bodies : length s.bodies ≤ 32
+  pub few_bodies : length s.bodies ≤ MOST_BODIES
   pub distinct : AreDistinct s.bodies
   pub inits_are : AreInits s inits s.inits
-  pub few_inits : length s.inits ≤ 64
+  pub few_inits : length s.inits ≤ MOST_OBJECTS
 
 -- The bytes are a text of the scenario: at most 1,048,576 bytes, in lines of allowed bytes, and the lines that aren't skipped tell the scenario.
 pub record ScenarioText (bytes : List ℕ) (s : Scenario) : Type 0 where
-  pub size : length bytes ≤ 1048576
+  pub size : length bytes ≤ MOST_BYTES
   pub allowed : AllByRecursion (λ line. is_plain line ≡ true) (lines_of bytes)
   pub lines : Tells (told_lines bytes) s
 

@@ -1,0 +1,34 @@
+//! The least and the greatest numbers of things, and the numbers that stand for something.
+
+/// The most clusters.
+pub const MOST_CLUSTERS: usize = 4;
+
+/// The most processors of all clusters together.
+pub const MOST_PROCESSORS: usize = 8;
+
+/// The seat of the clock. The seats below it are those of the processors.
+pub const CLOCK: u8 = 8;
+
+/// The greatest index of an object of a class, and so the most objects of a class that live.
+pub const MOST_OBJECTS: usize = 64;
+
+/// The number of the least urgent priority. The most urgent is 1.
+pub const LEAST_URGENT: u8 = 255;
+
+/// The greatest number of ticks, of a run or of a line `work`.
+pub const MOST_TICKS: u32 = 1_000_000;
+
+/// The greatest limit of entries of a history.
+pub const MOST_ENTRIES: u32 = 1_000_000;
+
+/// The limit of entries of a scenario without a line `limit`.
+pub const USUAL_ENTRIES: u32 = 200_000;
+
+/// The most bodies.
+pub const MOST_BODIES: usize = 32;
+
+/// The most lines of a body.
+pub const MOST_LINES: usize = 1_000;
+
+/// The most bytes of a scenario's text.
+pub const MOST_BYTES: usize = 1_048_576;
