@@ -1,3 +1,3 @@
 pub mod RegisterPassLemmas
 pub mod HighestBitLemmas
-pub mod AssignmentLemmas
+pub mod AssignedLineLemmas

@@ -14,9 +14,8 @@ use Rattle.rk_model.specs.Scheduling.ReadyQueues.{has_cpu}
 use Rattle.rk_model.specs.Scheduling.Running.{all_cpus, cpu_at, view_of, ready, caller}
 use Rattle.rk_kernel.specs.Calls.{IsActing}
 use Rattle.rk_kernel.specs.Sound.{stands, own, AllSound, IsSound}
-use Rattle.rk_parts.proofs.BooleanLemmas.{equal_test, and_front, and_back}
+use Rattle.rk_model.proofs.BooleanLemmas.{equal_test, and_front, and_back, either, or_front, or_back}
 use Rattle.rk_model.proofs.CountLemmas.{times-filter, times-has, times_range}
-use Rattle.rk_cluster.proofs.AssignmentLemmas.{either, or_front, or_back}
 
 -- what a processor of a list has
 at_cpu : (cpus : List (Option ℕ)) (p t : ℕ) → get_or cpus p None ≡ Some t → has_cpu cpus t ≡ true

@@ -15,7 +15,7 @@ use Rattle.rk_model.specs.Scheduling.Timers.{is_same, times_armed, without_timer
 use Rattle.rk_model.specs.Scheduling.Ticks.{rung, expire, fire, fire_each}
 use Rattle.rk_parts.specs.Firing.{head_of, due_now, FiresFirst}
 use Rattle.rk_kernel.specs.Sound.{IsSound, IsGentle, waits_in, is_waiting}
-use Rattle.rk_parts.proofs.BooleanLemmas.{equal_test, and_front, and_back}
+use Rattle.rk_model.proofs.BooleanLemmas.{equal_test, and_front, and_back}
 use Rattle.rk_kernel.proofs.ThreadBoundsLemmas.{bounds_at}
 use Rattle.rk_kernel.proofs.GentleChangeLemmas.{gentle_same, gentle_fewer, gentle_end_wait}
 use Rattle.rk_kernel.proofs.TimerLemmas.{timers_of, times-without_due}

@@ -18,7 +18,7 @@ use Rattle.rk_model.specs.declared.state.Life.TheVariants.{Absent, Dormant, Star
 use Rattle.rk_model.specs.Scheduling.Priorities.{is_started}
 use Rattle.rk_model.specs.Directives.Tasks.{has_begun}
 use Rattle.rk_parts.specs.NamesAgree.{AreNamed}
-use Rattle.rk_parts.proofs.BooleanLemmas.{and_front, and_back, equal_test}
+use Rattle.rk_model.proofs.BooleanLemmas.{and_front, and_back, equal_test}
 use Rattle.rk_kernel.specs.Sound.{IsSound, IsInBounds, IsGentle, waits_in, is_waiting, is_in_call}
 use Rattle.rk_model.proofs.IndexLemmas.{nth-with_other, nth-with_kept, nth-with_holds, length-with_nth, All-with_nth}
 use Rattle.rk_kernel.proofs.ThreadBoundsLemmas.{bounds_in, arrived_bounds}

@@ -29,7 +29,7 @@ use Rattle.rk_kernel.proofs.InitNamesLemmas.{named_vacant, named_begun}
 use Rattle.rk_kernel.proofs.ThreadBoundsLemmas.{none_bounds, arrived_bounds}
 use Rattle.rk_kernel.specs.Sound.{stands, own, AllSound, IsInBounds, IsSound, AllTimed, IsGentle}
 use Rattle.rk_model.proofs.CountLemmas.{times-filter}
-use Rattle.rk_parts.proofs.BooleanLemmas.{and_false}
+use Rattle.rk_model.proofs.BooleanLemmas.{and_false}
 use Rattle.rk_kernel.proofs.TimerLemmas.{keeps_same}
 use Rattle.rk_kernel.proofs.SoundSettlingLemmas.{sound_settled}
 

@@ -11,7 +11,7 @@ use Rattle.rk_model.specs.State.{Plain, no_thread, thread_at}
 use Rattle.rk_model.specs.Scheduling.Priorities.{is_eligible, standing, standings, nth_standing}
 use Rattle.rk_model.specs.Scheduling.Settling.{is_cluster, belongs, is_stay, is_to_end, is_to_front, move_of, moves, making, moved}
 use Rattle.rk_model.proofs.CountLemmas.{times-append, times-filter, has_times, has_none, once_in_range}
-use Rattle.rk_parts.proofs.BooleanLemmas.{and_false}
+use Rattle.rk_model.proofs.BooleanLemmas.{and_false}
 use Rattle.rk_parts.proofs.StandingLemmas.{standings_say}
 use Rattle.rk_kernel.specs.Sound.{stands, own}
 use Rattle.rk_kernel.proofs.CallerLemmas.{stands_eligible}

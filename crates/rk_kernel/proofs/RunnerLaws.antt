@@ -17,7 +17,7 @@ use Rattle.rk_model.specs.Steps.{Act, act}
 use Rattle.rk_model.specs.Limits.{IsWithinLimits}
 use Rattle.rk_model.specs.Histories.{free_cluster, vacant, opening, after}
 use Rattle.rk_model.specs.Text.Scenarios.{IsScenario}
-use Rattle.rk_cluster.proofs.AssignmentLemmas.{length-assigned}
+use Rattle.rk_model.proofs.AssignmentLemmas.{length-assigned}
 use Rattle.rk_parts.specs.Settled.{settled_from}
 use Rattle.rk_parts.proofs.SettlingLemmas.{urgency-with_clusters}
 use Rattle.rk_kernel.specs.Sound.{stands, own, AllSound, IsClusterSound, IsSound, KeepsLines}

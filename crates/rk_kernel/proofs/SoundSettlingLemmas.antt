@@ -9,7 +9,7 @@ use Rattle.rk_model.specs.Scheduling.Priorities.{is_eligible, urgency, standings
 use Rattle.rk_model.specs.Scheduling.ReadyQueues.{most_urgent}
 use Rattle.rk_model.specs.Scheduling.Settling.{moves, moved, settle}
 use Rattle.rk_model.specs.Scheduling.Running.{all_cpus, cpu_count}
-use Rattle.rk_cluster.proofs.AssignmentLemmas.{assigned_has, length-assigned}
+use Rattle.rk_model.proofs.AssignmentLemmas.{assigned_has, length-assigned}
 use Rattle.rk_parts.specs.declared.core_state.Core.{Core}
 use Rattle.rk_parts.specs.Pieces.{cluster_of, clusters_of, plain_of}
 use Rattle.rk_parts.specs.Pinned.{Stored, stored, key_of, AllKeyed, AreNumbered, AllHeld, CanSettle, IsNoted}

@@ -12,13 +12,12 @@ use Rattle.rk_model.specs.Scheduling.Priorities.{urgency, standings, nth_standin
 use Rattle.rk_model.specs.Scheduling.ReadyQueues.{has_cpu, kept, filled, assigned, most_urgent}
 use Rattle.rk_model.specs.Scheduling.Settling.{belongs, is_stay, is_to_end, is_to_front, move_of, moves, making, moved, settle}
 use Rattle.rk_model.proofs.CountLemmas.{times-has, has_times}
-use Rattle.rk_cluster.proofs.AssignmentLemmas.{or_front, or_back}
 use Rattle.rk_parts.specs.Pinned.{key_of}
 use Rattle.rk_parts.specs.Settled.{settled_cluster, settled_from}
-use Rattle.rk_parts.proofs.KeyedLineLemmas.{most_urgent_agree}
+use Rattle.rk_model.proofs.AgreeingKeysLemmas.{most_urgent_agree}
 use Rattle.rk_parts.proofs.SettlingLemmas.{settle_noted}
 use Rattle.rk_parts.proofs.StandingLemmas.{length-standings, urgency_here}
-use Rattle.rk_parts.proofs.BooleanLemmas.{equal_test}
+use Rattle.rk_model.proofs.BooleanLemmas.{equal_test, or_front, or_back}
 use Rattle.rk_kernel.specs.SchedulingLaws.{seats}
 use Rattle.rk_kernel.specs.Manned.{HasRunners, AllManned, AreManned}
 use Rattle.rk_kernel.specs.Sound.{IsSound, IsClusterSound, AllSound}

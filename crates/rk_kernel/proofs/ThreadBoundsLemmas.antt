@@ -15,7 +15,7 @@ use Rattle.rk_model.specs.declared.state.Life.TheVariants.{Absent}
 use Rattle.rk_model.specs.declared.state.Thread.{Thread}
 use Rattle.rk_model.specs.State.{Plain, no_thread, thread_at, op_at, op_in}
 use Rattle.rk_model.specs.Directives.Outcomes.{landing, arrived, work_at}
-use Rattle.rk_parts.proofs.BodyLemmas.{lines_in, goes_in, few_lines}
+use Rattle.rk_model.proofs.BodyLemmas.{lines_in, goes_in, few_lines}
 use Rattle.rk_kernel.specs.Sound.{IsSound, IsInBounds, IsGentle, has_action, is_in_call}
 
 first_acts : (o : Option Body) → has_action (op_in o 0) ≡ true

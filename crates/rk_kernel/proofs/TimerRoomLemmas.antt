@@ -13,7 +13,7 @@ use Rattle.rk_model.specs.Directives.Outcomes.{begin_wait}
 use Rattle.rk_model.specs.declared.state.Wait.{Wait}
 use Rattle.rk_model.specs.Scheduling.Timers.{is_same, times_armed}
 use Rattle.rk_model.proofs.CountLemmas.{length_by_times, length_range, once_in_range}
-use Rattle.rk_parts.proofs.BooleanLemmas.{and_false}
+use Rattle.rk_model.proofs.BooleanLemmas.{and_false}
 use Rattle.rk_kernel.specs.Calls.{IsActing}
 use Rattle.rk_kernel.specs.Sound.{waits_in}
 use Rattle.rk_kernel.proofs.ThreadBoundsLemmas.{bounds_at}

@@ -7,10 +7,10 @@ use Rattle.std.proofs.lemmas.Bool.Decides.{nat_tests}
 use Rattle.rk_model.specs.Lists.{has, times}
 use Rattle.rk_model.specs.Scheduling.ReadyQueues.{rank, ranked_from, nth_urgent, most_urgent}
 use Rattle.rk_kernel.specs.SchedulingLaws.{StandsUrgent, RunnersAreTheMostUrgent}
-use Rattle.rk_parts.proofs.BooleanLemmas.{equal_test}
-use Rattle.rk_cluster.proofs.AssignmentLemmas.{either, or_front, or_back, option_has}
+use Rattle.rk_model.proofs.BooleanLemmas.{equal_test, either, or_front, or_back}
+use Rattle.rk_model.proofs.AssignmentLemmas.{option_has}
 use Rattle.rk_model.proofs.CountLemmas.{has-append}
-use Rattle.rk_line.proofs.SortedLineLemmas.{upto-append, under-append, upto-le, under-le, upto-le_under, under-le_upto, rank_counts, inserted, all_inserted, sorted_line, sort_of, most_sorted}
+use Rattle.rk_model.proofs.SortedLineLemmas.{upto-append, under-append, upto-le, under-le, upto-le_under, under-le_upto, rank_counts, inserted, all_inserted, sorted_line, sort_of, most_sorted}
 
 pub none_urgent : (key : ℕ → ℕ) (m : ℕ) → most_urgent key m [] ≡ []
 none_urgent key zero = refl

@@ -1,3 +1,2 @@
-pub mod SortedLineLemmas
 pub mod LineLemmas
 pub mod RankLemmas

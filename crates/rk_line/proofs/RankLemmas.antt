@@ -9,7 +9,7 @@ use Rattle.rk_model.specs.Lists.{has}
 use Rattle.rk_model.specs.Scheduling.ReadyQueues.{rank, ranked_from, nth_urgent}
 use Rattle.rk_line.specs.declared.line.Place.{Place}
 use Rattle.rk_line.specs.Places.{threads, prio_in, prio_at, more_urgent, IsLine}
-use Rattle.rk_line.proofs.SortedLineLemmas.{inserted, all_inserted, sorted_line, sort_of}
+use Rattle.rk_model.proofs.SortedLineLemmas.{inserted, all_inserted, sorted_line, sort_of}
 use Rattle.rk_line.proofs.LineLemmas.{length-threads, prio_place}
 
 -- each place of a list has its thread's key as its priority

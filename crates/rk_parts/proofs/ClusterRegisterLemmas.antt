@@ -20,9 +20,9 @@ use Rattle.rk_cluster.specs.Clusters as clusters
 use Rattle.rk_parts.specs.ClusterRegisters.{change_by, register}
 use Rattle.rk_parts.specs.Pinned.{key_of, IsKeyed}
 use Rattle.rk_parts.specs.Settled.{settled_cluster}
-use Rattle.rk_parts.proofs.KeyedLineLemmas.{keyed, threads-keyed, prio_in-keyed, most_urgent_agree}
-use Rattle.rk_parts.proofs.BooleanLemmas.{equal_test}
-use Rattle.rk_cluster.proofs.AssignmentLemmas.{or_front, or_back}
+use Rattle.rk_parts.proofs.KeyedLineLemmas.{keyed, threads-keyed, prio_in-keyed}
+use Rattle.rk_model.proofs.AgreeingKeysLemmas.{most_urgent_agree}
+use Rattle.rk_model.proofs.BooleanLemmas.{equal_test, or_front, or_back}
 
 -- a thread with its priority, where it goes
 abbrev one : Bool → ℕ → ℕ → List Place

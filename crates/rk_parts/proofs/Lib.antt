@@ -1,5 +1,3 @@
-pub mod BooleanLemmas
-pub mod BodyLemmas
 pub mod LeastProcessorLemmas
 pub mod PiecesLemmas
 pub mod TimerListLemmas

@@ -6,7 +6,7 @@ use Rattle.rk_model.specs.declared.settling.Standing.{Standing}
 use Rattle.rk_model.specs.State.{ClusterState}
 use Rattle.rk_model.specs.Scheduling.Settling.{moves}
 use Rattle.rk_cluster.specs.Clusters.{Cluster, settled}
-use Rattle.rk_cluster.proofs.AssignmentLemmas.{length-assigned}
+use Rattle.rk_model.proofs.AssignmentLemmas.{length-assigned}
 use Rattle.rk_parts.specs.declared.core_state.ClusterPart.{ClusterPart}
 use Rattle.rk_parts.specs.Pieces.{cluster_of, clusters_of}
 use Rattle.rk_parts.specs.ClusterRegisters.{register}

@@ -14,7 +14,7 @@ use Rattle.rk_model.specs.Scheduling.Settling.{belongs, move_of, moves, is_stay,
 use Rattle.rk_model.proofs.CountLemmas.{has-append}
 use Rattle.rk_parts.specs.Settled.{settled_cluster, settled_from}
 use Rattle.rk_parts.specs.Pinned.{key_of}
-use Rattle.rk_parts.proofs.KeyedLineLemmas.{most_urgent_agree}
+use Rattle.rk_model.proofs.AgreeingKeysLemmas.{most_urgent_agree}
 use Rattle.rk_parts.proofs.StandingLemmas.{urgency_here}
 
 standing-with_clusters : (k : Plain) (clusters : List ClusterState) (t : ℕ) → standing (record k { clusters = clusters }) t ≡ standing k t

@@ -12,7 +12,7 @@ use Rattle.rk_model.specs.State.{Plain, no_thread, thread_at}
 use Rattle.rk_model.specs.Scheduling.Priorities.{is_no_wait, spins_in, is_eligible, prio, or_least_urgent, home_prio, urgency, standing, standings_from, standings, no_standing, nth_standing}
 use Rattle.rk_model.specs.Scheduling.Settling.{belongs}
 use Rattle.rk_parts.specs.Threads.{is_ready, own_standing}
-use Rattle.rk_parts.proofs.BooleanLemmas.{equal_test}
+use Rattle.rk_model.proofs.BooleanLemmas.{equal_test}
 
 -- the standing of an index, of the threads at their places
 pub standing_of : (places : List Thread) (t : ℕ) → nth_standing (map own_standing places) t ≡ own_standing (nth no_thread places t)

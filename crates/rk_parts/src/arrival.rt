@@ -7,7 +7,7 @@ ghost use Rattle.rk_model.specs.Directives.Outcomes.{landing, work_at, arrived};
 use rk_model::{Op, Scenario, Thread};
 
 /// The line of a body at which a thread is that would arrive at a line.
-#[tactic(auto, using(crate::proofs::BodyLemmas::goto_within), unfolding(rk_model::specs::Directives::Outcomes::landing))]
+#[tactic(auto, using(rk_model::proofs::BodyLemmas::goto_within), unfolding(rk_model::specs::Directives::Outcomes::landing))]
 fn land(scenario: &Scenario, body: u8, line: u16) -> u16
     requires { AreRunnable scenario.now.bodies }
     ensures { result ≡ landing scenario.now body line }

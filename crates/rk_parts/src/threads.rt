@@ -59,7 +59,7 @@ fn standing_in(stood: &[Standing], thread: ThreadIx) -> Standing
 }
 
 /// Whether a thread is marked.
-#[tactic(auto, using(crate::proofs::BooleanLemmas::any_has))]
+#[tactic(auto, using(rk_model::proofs::BooleanLemmas::any_has))]
 fn is_marked(marked: &[ThreadIx], thread: ThreadIx) -> bool
     ensures { result ≡ has marked.now thread }
 {

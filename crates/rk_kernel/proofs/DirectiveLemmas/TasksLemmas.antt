@@ -26,7 +26,7 @@ use Rattle.rk_kernel.proofs.TimerLemmas.{timed_sound, timed_kept, keeps_same}
 use Rattle.rk_kernel.proofs.NamesAgreeLemmas.{task_lives, first_free, named_made, named_removed}
 use Rattle.rk_kernel.proofs.GentleChangeLemmas.{gentle_same, gentle_put, gentle_unarmed, gentle_cancel, cancelled, Stays, stays_put, stays_apart}
 use Rattle.rk_kernel.proofs.OutcomeLemmas.{IsFair, gentle_limited, stays_same, fair_refused, fair_done, fair_waiting, fair_gone, fair_found, fair_create, fair_ident, fair_if}
-use Rattle.rk_parts.proofs.BooleanLemmas.{and_back, equal_test}
+use Rattle.rk_model.proofs.BooleanLemmas.{and_back, equal_test}
 
 lives_by : (k : Plain) (v u : ℕ) (b : Bool) → has_begun (thread_at k v).life ≡ b → cond b (Some v) None ≡ Some u → has_begun (thread_at k u).life ≡ true
 lives_by k v u true e is = let same : v ≡ u = cc in ap (λ w. has_begun (thread_at k w).life) (sym same) ∙ e

@@ -1,5 +1,5 @@
 use Rattle.std.proofs.Common.{◌∙◌}
-use Rattle.rk_parts.proofs.BooleanLemmas.{any_has}
+use Rattle.rk_model.proofs.BooleanLemmas.{any_has}
 use Rattle.rk_parts.proofs.threads.is_marked.Goals as goal
 
 pub returns : goal.returns

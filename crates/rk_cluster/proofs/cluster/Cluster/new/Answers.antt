@@ -1,6 +1,6 @@
 use Rattle.std.proofs.Common.{◌≡◌, List, Option, None, ℕ, replicate, rules}
 use Rattle.std.proofs.lemmas.List.{length-replicate}
-use Rattle.rk_cluster.proofs.AssignmentLemmas.{assigned_free}
+use Rattle.rk_cluster.proofs.AssignedLineLemmas.{assigned_free}
 use Rattle.rk_cluster.proofs.cluster.Cluster.new.Goals as goal
 
 pub invariant_of-result : goal.invariant_of-result

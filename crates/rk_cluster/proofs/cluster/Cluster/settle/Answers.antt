@@ -1,7 +1,8 @@
 use Rattle.std.proofs.Common.{◌≡◌, length, ap, sym, refl, subst, ◌∙◌}
 use Rattle.rk_cluster.specs.Registers.{change_at}
 use Rattle.rk_cluster.specs.Clusters.{Cluster, settled}
-use Rattle.rk_cluster.proofs.AssignmentLemmas.{length-assigned, assigned_by, settled_still}
+use Rattle.rk_model.proofs.AssignmentLemmas.{length-assigned}
+use Rattle.rk_cluster.proofs.AssignedLineLemmas.{assigned_by, settled_still}
 use Rattle.rk_cluster.proofs.cluster.Cluster.settle.Goals as goal
 
 pub returns-then-is_empty : goal.returns-then-is_empty

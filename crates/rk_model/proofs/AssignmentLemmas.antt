@@ -6,14 +6,9 @@ use Rattle.std.proofs.lemmas.List.{length-map}
 use Rattle.std.proofs.lemmas.Bool.{false≢true}
 use Rattle.std.proofs.lemmas.Bool.Decides.{nat_tests}
 use Rattle.rk_model.specs.Lists.{has}
-use Rattle.rk_model.proofs.CountLemmas.{has-append}
 use Rattle.rk_model.specs.Scheduling.ReadyQueues.{rank, ranked_from, nth_urgent, most_urgent, has_cpu, kept, filled, assigned}
-use Rattle.rk_line.specs.declared.line.Place.{Place}
-use Rattle.rk_line.specs.Places.{prio_in}
-use Rattle.rk_cluster.specs.declared.moves.Change.{Change}
-use Rattle.rk_cluster.specs.Registers.{no_changes}
-use Rattle.rk_cluster.specs.Clusters.{Cluster, runners_of, AreAssigned, lined_up, settled}
-use Rattle.rk_cluster.proofs.RegisterPassLemmas.{moved_none}
+use Rattle.rk_model.proofs.CountLemmas.{has-append}
+use Rattle.rk_model.proofs.BooleanLemmas.{same_number, either, or_front, or_back}
 
 length-filled : (cpus : List (Option ℕ)) (ts : List ℕ) → length (filled cpus ts) ≡ length cpus
 length-filled [] ts = refl
@@ -23,20 +18,6 @@ length-filled (None ∷ cpus) (t ∷ ts) = omega (arith, length-filled cpus ts)
 
 pub length-assigned : (old : List (Option ℕ)) (running : List ℕ) → length (assigned old running) ≡ length old
 length-assigned old running = length-filled (map (kept running) old) _ ∙ length-map old (kept running)
-
-pub either : (a b : Bool) → (a || b) ≡ true → (a ≡ true) ⊎ (b ≡ true)
-either true b h = inl refl
-either false b h = inr h
-
-pub or_front : {a : Bool} (b : Bool) → a ≡ true → (a || b) ≡ true
-or_front b h = rw h refl
-
-pub or_back : (a : Bool) {b : Bool} → b ≡ true → (a || b) ≡ true
-or_back true h = refl
-or_back false h = h
-
-pub same_number : (u t : ℕ) → (u == t) ≡ true → u ≡ t
-same_number u t h = grind (arith, nat_tests, h)
 
 same_test : (u : ℕ) → (u == u) ≡ true
 same_test u = grind (arith, nat_tests)
@@ -128,7 +109,8 @@ kept_all running (Some u ∷ cpus) runs =
     let here = runs u (or_front (has_cpu cpus u) (same_test u)) in
     rw here (ap (λ (xs : List (Option ℕ)). Some u ∷ xs) (kept_all running cpus (λ t h. runs t (or_back (u == t) h))))
 
-filled_none : (cpus : List (Option ℕ)) → filled cpus [] ≡ cpus
+-- where nobody is to fill a processor, all stay as they are
+pub filled_none : (cpus : List (Option ℕ)) → filled cpus [] ≡ cpus
 filled_none [] = refl
 filled_none (None ∷ cpus) = ap (λ (xs : List (Option ℕ)). None ∷ xs) (filled_none cpus)
 filled_none (Some u ∷ cpus) = ap (λ (xs : List (Option ℕ)). Some u ∷ xs) (filled_none cpus)
@@ -187,30 +169,11 @@ assigned_again old running =
     by t true is h all = filled_stays (map (kept running) old) _ t (kept_stays running old t is h)
     by t false is h all = all t (has_filter (λ u. not (has_cpu old u)) running t h (ap not is))
 
--- the processors that were assigned by a line
-pub assigned_by : (line : List Place) (old cpus : List (Option ℕ)) → cpus ≡ assigned old (runners_of (length old) line) → AreAssigned line cpus
-assigned_by line old cpus is =
-    let running = runners_of (length old) line in
-    let size : length cpus ≡ length old = ap length is ∙ length-assigned old running in
-    ap (λ n. assigned cpus (runners_of n line)) size ∙ ap (λ (xs : List (Option ℕ)). assigned xs running) is ∙ assigned_again old running ∙ sym is
-
-none_urgent : (key : ℕ → ℕ) (m : ℕ) → most_urgent key m [] ≡ []
+-- a line without threads has no most urgent ones
+pub none_urgent : (key : ℕ → ℕ) (m : ℕ) → most_urgent key m [] ≡ []
 none_urgent key zero = refl
 none_urgent key (suc m) = rw (none_urgent key m) refl
 
-kept_free : (n : ℕ) → map (kept []) (replicate n None) ≡ replicate n None
+pub kept_free : (n : ℕ) → map (kept []) (replicate n None) ≡ replicate n None
 kept_free zero = refl
 kept_free (suc n) = ap (λ (xs : List (Option ℕ)). None ∷ xs) (kept_free n)
-
--- without threads all processors stay free
-pub assigned_free : (n : ℕ) (cpus : List (Option ℕ)) → cpus ≡ replicate n None → AreAssigned [] cpus
-assigned_free n cpus is =
-    let free : List (Option ℕ) = replicate n None in
-    let none : runners_of (length free) [] ≡ [] = none_urgent (prio_in []) (length free) in
-    let same : assigned free (runners_of (length free) []) ≡ free = ap (assigned free) none ∙ filled_none (map (kept []) free) ∙ kept_free n in
-    rw is same
-
--- A cluster whose processors are assigned by its line stays as it is where nothing changes.
-pub settled_still : (changes : ℕ → Option Change) (cluster : Cluster) → changes ≡ no_changes → AreAssigned cluster.line cluster.cpus → settled changes cluster ≡ cluster
-settled_still changes cluster none assigned =
-    ap (lined_up cluster) (moved_none changes cluster.line none) ∙ ap (λ (cpus : List (Option ℕ)). (let x : Cluster = record cluster { cpus = cpus } in x)) assigned
