@@ -3,7 +3,7 @@ use Rattle.std.proofs.Common.{◌≡◌, ℕ, zero, suc, ◌+◌, ◌<◌, ◌�
 use Rattle.std.specs.List.{slice_set}
 use Rattle.std.proofs.lemmas.List.{set-get_or, get_or-set_same, length-set}
 use Rattle.std.proofs.lemmas.Bool.Decides.{nat_tests}
-use Rattle.rk_model.specs.declared.settling.Move.{Move}
+use Rattle.rk_model.specs.declared.settling.Shift.{Shift}
 use Rattle.rk_model.specs.declared.state.Armed.{Armed}
 use Rattle.rk_model.specs.declared.state.Armer.{Armer}
 use Rattle.rk_model.specs.declared.state.Armer.TheVariants.{Thread as OfThread}
@@ -55,10 +55,10 @@ one_gone tick t (timer ∷ timers) xs x whose due = by (is_due tick timer) due (
   by false due more = omega (arith, more due)
 
 -- settling leaves the timers alone
-timers-settled_from : (move : ℕ → ℕ → Move) (key : ℕ → ℕ → ℕ) (n c : ℕ) (clusters : List ClusterState) (i : ℕ) → (get_or (settled_from move key n c clusters) i no_cluster).timers ≡ (get_or clusters i no_cluster).timers
-timers-settled_from move key n c [] i = refl
-timers-settled_from move key n c (cluster ∷ clusters) zero = refl
-timers-settled_from move key n c (cluster ∷ clusters) (suc i) = timers-settled_from move key n (c + 1) clusters i
+timers-settled_from : (shift : ℕ → ℕ → Shift) (key : ℕ → ℕ → ℕ) (n c : ℕ) (clusters : List ClusterState) (i : ℕ) → (get_or (settled_from shift key n c clusters) i no_cluster).timers ≡ (get_or clusters i no_cluster).timers
+timers-settled_from shift key n c [] i = refl
+timers-settled_from shift key n c (cluster ∷ clusters) zero = refl
+timers-settled_from shift key n c (cluster ∷ clusters) (suc i) = timers-settled_from shift key n (c + 1) clusters i
 
 -- to cancel the timer of one that has none changes nothing
 without_none : (who : Armer) (timers : List Armed) → times_armed who timers ≡ 0 → without_timer who timers ≡ timers

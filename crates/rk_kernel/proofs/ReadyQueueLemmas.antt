@@ -1,15 +1,15 @@
--- The moves keep in each line exactly the eligible threads of its cluster.
+-- The shifts keep in each line exactly the eligible threads of its cluster.
 use Rattle.std.proofs.Common.{◌≡◌, ℕ, zero, suc, ◌+◌, ◌<◌, ◌≤◌, List, ◌++◌, Bool, true, false, cond, not, ◌&&◌, ◌==◌, nat_lt, Some, None, length, ⊎_elim, arith, refl, ap, sym, ◌∙◌}
 use Rattle.std.specs.List.{filter, range_with_len}
 use Rattle.std.proofs.lemmas.List.{get_or_past}
 use Rattle.std.proofs.lemmas.Bool.{cases_lt, false≢true}
 use Rattle.rk_model.specs.declared.settling.Standing.{Standing}
-use Rattle.rk_model.specs.declared.settling.Move.{Move}
-use Rattle.rk_model.specs.declared.settling.Move.TheVariants.{Stay, Leave, ToEnd, ToFront}
+use Rattle.rk_model.specs.declared.settling.Shift.{Shift}
+use Rattle.rk_model.specs.declared.settling.Shift.TheVariants.{Stay, Leave, ToEnd, ToFront}
 use Rattle.rk_model.specs.Lists.{has, times}
 use Rattle.rk_model.specs.State.{Plain, no_thread, thread_at}
 use Rattle.rk_model.specs.Scheduling.Priorities.{is_eligible, standing, standings, nth_standing}
-use Rattle.rk_model.specs.Scheduling.Settling.{is_cluster, belongs, is_stay, is_to_end, is_to_front, move_of, moves, making, moved}
+use Rattle.rk_model.specs.Scheduling.Settling.{is_cluster, belongs, is_stay, is_to_end, is_to_front, shift_of, shifts, making, shifted}
 use Rattle.rk_model.proofs.CountLemmas.{times-append, times-filter, has_times, has_none, once_in_range}
 use Rattle.rk_model.proofs.BooleanLemmas.{and_false}
 use Rattle.rk_parts.proofs.StandingLemmas.{standings_say}
@@ -59,10 +59,10 @@ has_once false t line once = has_none t line once
 pub line_belongs : (k : Plain) (c : ℕ) (line : List ℕ) → ((t : ℕ) → times t line ≡ times t (own k c)) → (t : ℕ) → has line t ≡ belongs c (nth_standing (standings k) t)
 line_belongs k c line held t = has_once (stands k c t) t line (held t ∙ own_once k c t) ∙ sym (noted_stands k c t)
 
--- ---- the line after the moves
+-- ---- the line after the shifts
 
--- the move, by what is asked of a thread: whether it belongs there now and before, more urgent, last, less urgent
-abbrev chosen : Bool → Bool → Bool → Bool → Bool → Move
+-- the shift, by what is asked of a thread: whether it belongs there now and before, more urgent, last, less urgent
+abbrev chosen : Bool → Bool → Bool → Bool → Bool → Shift
 chosen now before lt la gt = cond (not now) Leave (cond (not before) ToEnd (cond lt ToEnd (cond la ToEnd (cond gt ToFront Stay))))
 
 -- of the three places in the new line a thread has one where it belongs there, and else none
@@ -78,21 +78,21 @@ one_place true true false false false n = omega arith
 abbrev placed : List Standing → ℕ → ℕ → ℕ → ℕ
 placed stood n c t = cond (belongs c (nth_standing stood t)) (times t (range_with_len 1 n)) 0
 
--- how often a thread stands in the line after the moves
-times-moved : (before now : List Standing) (last : List ℕ) (n c : ℕ) (line : List ℕ) (t : ℕ) → times t line ≡ placed before n c t → times t (moved (moves before now last c) n line) ≡ placed now n c t
-unfolding moves move_of
-times-moved before now last n c line t held =
+-- how often a thread stands in the line after the shifts
+times-shifted : (before now : List Standing) (last : List ℕ) (n c : ℕ) (line : List ℕ) (t : ℕ) → times t line ≡ placed before n c t → times t (shifted (shifts before now last c) n line) ≡ placed now n c t
+unfolding shifts shift_of
+times-shifted before now last n c line t held =
     let r = range_with_len 1 n in
     let was = nth_standing before t in
     let is = nth_standing now t in
-    let move = moves before now last c in
-    let front = making is_to_front move n in
-    let stay = filter (λ u. is_stay (move u)) line in
-    let ends = making is_to_end move n in
+    let shift = shifts before now last c in
+    let front = making is_to_front shift n in
+    let stay = filter (λ u. is_stay (shift u)) line in
+    let ends = making is_to_end shift n in
     let a = times-append t (front ++ stay) ends ∙ ap (λ m. m + times t ends) (times-append t front stay) in
-    let f = times-filter (λ u. is_to_front (move u)) t r in
-    let s = times-filter (λ u. is_stay (move u)) t line in
-    let e = times-filter (λ u. is_to_end (move u)) t r in
+    let f = times-filter (λ u. is_to_front (shift u)) t r in
+    let s = times-filter (λ u. is_stay (shift u)) t line in
+    let e = times-filter (λ u. is_to_end (shift u)) t r in
     let one = one_place (belongs c is) (belongs c was) (nat_lt is.prio was.prio) (has last t) (nat_lt was.prio is.prio) (times t r) in
     a ∙ (rw (f, s, e, held) one)
 
@@ -100,8 +100,8 @@ own_placed : (k : Plain) (c t : ℕ) → times t (own k c) ≡ placed (standings
 own_placed k c t =
     times-filter (stands k c) t (range_with_len 1 (length k.threads)) ∙ ap (λ b. cond b (times t (range_with_len 1 (length k.threads))) 0) (sym (noted_stands k c t))
 
--- a line with exactly the eligible threads of its cluster has exactly those after the moves
+-- a line with exactly the eligible threads of its cluster has exactly those after the shifts
 pub line_moved : (k next : Plain) (last : List ℕ) (c : ℕ) (line : List ℕ) → length next.threads ≡ length k.threads → ((t : ℕ) → times t line ≡ times t (own k c)) →
-    (t : ℕ) → times t (moved (moves (standings k) (standings next) last c) (length next.threads) line) ≡ times t (own next c)
+    (t : ℕ) → times t (shifted (shifts (standings k) (standings next) last c) (length next.threads) line) ≡ times t (own next c)
 line_moved k next last c line size held t =
-    times-moved (standings k) (standings next) last (length next.threads) c line t (held t ∙ own_placed k c t ∙ ap (λ n. placed (standings k) n c t) (sym size)) ∙ sym (own_placed next c t)
+    times-shifted (standings k) (standings next) last (length next.threads) c line t (held t ∙ own_placed k c t ∙ ap (λ n. placed (standings k) n c t) (sym size)) ∙ sym (own_placed next c t)

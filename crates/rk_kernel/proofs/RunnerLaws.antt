@@ -10,7 +10,7 @@ use Rattle.rk_model.specs.Lists.{times}
 use Rattle.rk_model.specs.State.{Plain, ClusterState, no_cluster, thread_at, cluster_at}
 use Rattle.rk_model.specs.Scheduling.Priorities.{is_eligible, spins, prio, or_least_urgent, urgency, standings}
 use Rattle.rk_model.specs.Scheduling.ReadyQueues.{most_urgent, assigned}
-use Rattle.rk_model.specs.Scheduling.Settling.{moves, moved}
+use Rattle.rk_model.specs.Scheduling.Settling.{shifts, shifted}
 use Rattle.rk_model.specs.Scheduling.Running.{all_cpus, cpu_at, view_of}
 use Rattle.rk_model.specs.Scheduling.Ticks.{pass}
 use Rattle.rk_model.specs.Steps.{Act, act}
@@ -41,9 +41,9 @@ runs_once k key c m line held t = omega (arith, times-most_urgent key m line t, 
 
 -- what a cluster's processors have after settling
 manned_settled : (k next : Plain) (last : List ℕ) (key : ℕ → ℕ) (c : ℕ) (a b : ClusterState) → length next.threads ≡ length k.threads → IsClusterSound k c a → HasRunners (urgency k c) a → b.line ≡ a.line → b.cpus ≡ a.cpus →
-    (t : ℕ) → let line = moved (moves (standings k) (standings next) last c) (length next.threads) b.line in seats t (assigned b.cpus (most_urgent key (length b.cpus) line)) ≡ times t (most_urgent key (length (assigned b.cpus (most_urgent key (length b.cpus) line))) line)
+    (t : ℕ) → let line = shifted (shifts (standings k) (standings next) last c) (length next.threads) b.line in seats t (assigned b.cpus (most_urgent key (length b.cpus) line)) ≡ times t (most_urgent key (length (assigned b.cpus (most_urgent key (length b.cpus) line))) line)
 manned_settled k next last key c a b size sound manned same kept t =
-    let line = moved (moves (standings k) (standings next) last c) (length next.threads) b.line in
+    let line = shifted (shifts (standings k) (standings next) last c) (length next.threads) b.line in
     let running = most_urgent key (length b.cpus) line in
     let held = line_moved k next last c b.line size (λ u. rw same (sound.line u)) in
     let few : (u : ℕ) → seats u b.cpus ≤ 1 = λ u. rw kept (omega (arith, manned u, runs_once k (urgency k c) c (length a.cpus) a.line sound.line u, at_most_once (stands k c u))) in
@@ -51,7 +51,7 @@ manned_settled k next last key c a b size sound manned same kept t =
     seats_assigned b.cpus running few once (most_few key (length b.cpus) line) t ∙ ap (λ m. times t (most_urgent key m line)) (sym (length-assigned b.cpus running))
 
 all_manned : (k next : Plain) (last : List ℕ) (key : ℕ → ℕ → ℕ) (c : ℕ) (olds news : List ClusterState) → length next.threads ≡ length k.threads → AllSound k c olds → AllManned (urgency k) c olds → KeepsLines olds news →
-    AllManned key c (settled_from (moves (standings k) (standings next) last) key (length next.threads) c news)
+    AllManned key c (settled_from (shifts (standings k) (standings next) last) key (length next.threads) c news)
 all_manned k next last key c [] [] size sound manned keeps = tt
 all_manned k next last key c [] (b ∷ news) size sound manned keeps = absurd keeps
 all_manned k next last key c (a ∷ olds) [] size sound manned keeps = absurd keeps

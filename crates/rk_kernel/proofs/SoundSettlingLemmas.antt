@@ -2,12 +2,12 @@
 use Rattle.std.proofs.Common.{◌≡◌, ℕ, ◌+◌, List, [], ◌∷◌, length, length-append, arith, refl, ap, sym, subst, ◌∙◌}
 use Rattle.std.proofs.lemmas.List.{length-map}
 use Rattle.rk_model.specs.declared.settling.Standing.{Standing}
-use Rattle.rk_model.specs.declared.settling.Move.{Move}
+use Rattle.rk_model.specs.declared.settling.Shift.{Shift}
 use Rattle.rk_model.specs.Lists.{times}
 use Rattle.rk_model.specs.State.{Plain, ClusterState}
 use Rattle.rk_model.specs.Scheduling.Priorities.{is_eligible, urgency, standings}
 use Rattle.rk_model.specs.Scheduling.ReadyQueues.{most_urgent}
-use Rattle.rk_model.specs.Scheduling.Settling.{moves, moved, settle}
+use Rattle.rk_model.specs.Scheduling.Settling.{shifts, shifted, settle}
 use Rattle.rk_model.specs.Scheduling.Running.{all_cpus, cpu_count}
 use Rattle.rk_model.proofs.AssignmentLemmas.{assigned_has, length-assigned}
 use Rattle.rk_parts.specs.declared.core_state.Core.{Core}
@@ -51,28 +51,28 @@ can_settle before after sound noted kept gentle =
 
 -- the clusters of a change of a state, each settled
 abbrev pub each_settled : Plain → Plain → List ℕ → List ClusterState
-each_settled k next last = settled_from (moves (standings k) (standings next) last) (urgency next) (length next.threads) 0 next.clusters
+each_settled k next last = settled_from (shifts (standings k) (standings next) last) (urgency next) (length next.threads) 0 next.clusters
 
 pub settled_each : (k next : Plain) (last : List ℕ) → settle k next last ≡ (let n : Plain = record next { clusters = each_settled k next last } in n)
 settled_each k next last = settle_each (standings k) next last
 
-length_each : (move : ℕ → ℕ → Move) (key : ℕ → ℕ → ℕ) (n c : ℕ) (clusters : List ClusterState) → length (settled_from move key n c clusters) ≡ length clusters
-length_each move key n c [] = refl
-length_each move key n c (cluster ∷ clusters) = omega (arith, length_each move key n (c + 1) clusters)
+length_each : (shift : ℕ → ℕ → Shift) (key : ℕ → ℕ → ℕ) (n c : ℕ) (clusters : List ClusterState) → length (settled_from shift key n c clusters) ≡ length clusters
+length_each shift key n c [] = refl
+length_each shift key n c (cluster ∷ clusters) = omega (arith, length_each shift key n (c + 1) clusters)
 
 pub length-settled : (k next : Plain) (last : List ℕ) → length (settle k next last).clusters ≡ length next.clusters
 length-settled k next last =
-    ap (λ (x : Plain). length x.clusters) (settled_each k next last) ∙ length_each (moves (standings k) (standings next) last) (urgency next) (length next.threads) 0 next.clusters
+    ap (λ (x : Plain). length x.clusters) (settled_each k next last) ∙ length_each (shifts (standings k) (standings next) last) (urgency next) (length next.threads) 0 next.clusters
 
-cpus_each : (move : ℕ → ℕ → Move) (key : ℕ → ℕ → ℕ) (n c : ℕ) (clusters : List ClusterState) → length (all_cpus (settled_from move key n c clusters)) ≡ length (all_cpus clusters)
-cpus_each move key n c [] = refl
-cpus_each move key n c (cluster ∷ clusters) =
-    let a = length-assigned cluster.cpus (most_urgent (key c) (length cluster.cpus) (moved (move c) n cluster.line)) in
-    length-append (settled_cluster (move c) (key c) n cluster).cpus (all_cpus (settled_from move key n (c + 1) clusters)) ∙ (rw (a, cpus_each move key n (c + 1) clusters) refl) ∙ sym (length-append cluster.cpus (all_cpus clusters))
+cpus_each : (shift : ℕ → ℕ → Shift) (key : ℕ → ℕ → ℕ) (n c : ℕ) (clusters : List ClusterState) → length (all_cpus (settled_from shift key n c clusters)) ≡ length (all_cpus clusters)
+cpus_each shift key n c [] = refl
+cpus_each shift key n c (cluster ∷ clusters) =
+    let a = length-assigned cluster.cpus (most_urgent (key c) (length cluster.cpus) (shifted (shift c) n cluster.line)) in
+    length-append (settled_cluster (shift c) (key c) n cluster).cpus (all_cpus (settled_from shift key n (c + 1) clusters)) ∙ (rw (a, cpus_each shift key n (c + 1) clusters) refl) ∙ sym (length-append cluster.cpus (all_cpus clusters))
 
 pub cpus-settled : (k next : Plain) (last : List ℕ) → cpu_count (settle k next last) ≡ cpu_count next
 cpus-settled k next last =
-    ap (λ (x : Plain). cpu_count x) (settled_each k next last) ∙ cpus_each (moves (standings k) (standings next) last) (urgency next) (length next.threads) 0 next.clusters
+    ap (λ (x : Plain). cpu_count x) (settled_each k next last) ∙ cpus_each (shifts (standings k) (standings next) last) (urgency next) (length next.threads) 0 next.clusters
 
 cpus-kept : (olds news : List ClusterState) → KeepsLines olds news → length (all_cpus news) ≡ length (all_cpus olds)
 cpus-kept [] [] keeps = refl
@@ -88,12 +88,12 @@ unfolding stands is_eligible
 own-with_clusters k clusters c t = refl
 
 all_sound : (k next : Plain) (last : List ℕ) (clusters : List ClusterState) (c : ℕ) (olds news : List ClusterState) → length next.threads ≡ length k.threads → AllSound k c olds → KeepsLines olds news → AllTimed next.threads c news →
-    AllSound (record next { clusters = clusters }) c (settled_from (moves (standings k) (standings next) last) (urgency next) (length next.threads) c news)
+    AllSound (record next { clusters = clusters }) c (settled_from (shifts (standings k) (standings next) last) (urgency next) (length next.threads) c news)
 all_sound k next last clusters c [] [] size sound keeps timed = tt
 all_sound k next last clusters c [] (b ∷ news) size sound keeps timed = absurd keeps
 all_sound k next last clusters c (a ∷ olds) [] size sound keeps timed = absurd keeps
 all_sound k next last clusters c (a ∷ olds) (b ∷ news) size sound keeps timed =
-    let line = moved (moves (standings k) (standings next) last c) (length next.threads) b.line in (
+    let line = shifted (shifts (standings k) (standings next) last c) (length next.threads) b.line in (
       record {
         few_cpus = rw (length-assigned, keeps.1) sound.0.few_cpus;
         line = λ t. line_moved k next last c b.line size (λ u. rw keeps.0 (sound.0.line u)) t ∙ own-with_clusters next clusters c t;

@@ -5,12 +5,12 @@ use Rattle.std.proofs.lemmas.List.{append-nil}
 use Rattle.std.proofs.lemmas.Bool.{false≢true}
 use Rattle.std.proofs.lemmas.Bool.Decides.{nat_tests}
 use Rattle.rk_model.specs.declared.settling.Standing.{Standing}
-use Rattle.rk_model.specs.declared.settling.Move.TheVariants.{Stay, Leave, ToEnd, ToFront}
+use Rattle.rk_model.specs.declared.settling.Shift.TheVariants.{Stay, Leave, ToEnd, ToFront}
 use Rattle.rk_model.specs.Lists.{has, times}
 use Rattle.rk_model.specs.State.{Plain, ClusterState}
 use Rattle.rk_model.specs.Scheduling.Priorities.{urgency, standings, nth_standing}
 use Rattle.rk_model.specs.Scheduling.ReadyQueues.{has_cpu, kept, filled, assigned, most_urgent}
-use Rattle.rk_model.specs.Scheduling.Settling.{belongs, is_stay, is_to_end, is_to_front, move_of, moves, making, moved, settle}
+use Rattle.rk_model.specs.Scheduling.Settling.{belongs, is_stay, is_to_end, is_to_front, shift_of, shifts, making, shifted, settle}
 use Rattle.rk_model.proofs.CountLemmas.{times-has, has_times}
 use Rattle.rk_parts.specs.Pinned.{key_of}
 use Rattle.rk_parts.specs.Settled.{settled_cluster, settled_from}
@@ -39,8 +39,8 @@ filter_all p (x ∷ xs) all =
     rw here (ap (λ ys. x ∷ ys) (filter_all p xs (λ t h. all t (or_back (x == t) h))))
 
 -- a thread that stands as before stays where it belongs in the line, and goes nowhere
-stands_still : (c : ℕ) (s : Standing) → (is_to_front (move_of c s s false) ≡ false) × (is_to_end (move_of c s s false) ≡ false) × (is_stay (move_of c s s false) ≡ belongs c s)
-unfolding move_of
+stands_still : (c : ℕ) (s : Standing) → (is_to_front (shift_of c s s false) ≡ false) × (is_to_end (shift_of c s s false) ≡ false) × (is_stay (shift_of c s s false) ≡ belongs c s)
+unfolding shift_of
 stands_still c s = by (belongs c s) (ltb s.prio s.prio) (grind (arith, nat_tests)) where
   by : (e b : Bool) → b ≡ false → let m = cond (not e) Leave (cond (not e) ToEnd (cond b ToEnd (cond false ToEnd (cond b ToFront Stay)))) in (is_to_front m ≡ false) × (is_to_end m ≡ false) × (is_stay m ≡ e)
   by true true less = absurd (false≢true (sym less))
@@ -48,15 +48,15 @@ stands_still c s = by (belongs c s) (ltb s.prio s.prio) (grind (arith, nat_tests
   by false b less = (refl, refl, refl)
 
 -- a line of threads that belong there is as before
-line_still : (xs : List Standing) (c n : ℕ) (line : List ℕ) → ((t : ℕ) → has line t ≡ true → belongs c (nth_standing xs t) ≡ true) → moved (moves xs xs [] c) n line ≡ line
-unfolding moves
+line_still : (xs : List Standing) (c n : ℕ) (line : List ℕ) → ((t : ℕ) → has line t ≡ true → belongs c (nth_standing xs t) ≡ true) → shifted (shifts xs xs [] c) n line ≡ line
+unfolding shifts
 line_still xs c n line held =
-    let move = moves xs xs [] c in
-    let front = filter_none (λ t. is_to_front (move t)) (range_with_len 1 n) (λ t h. (stands_still c (nth_standing xs t)).0) in
-    let ends = filter_none (λ t. is_to_end (move t)) (range_with_len 1 n) (λ t h. (stands_still c (nth_standing xs t)).1) in
-    let stay = filter_all (λ t. is_stay (move t)) line (λ t h. (stands_still c (nth_standing xs t)).2 ∙ held t h) in
-    ap (λ (ys : List ℕ). (ys ++ filter (λ t. is_stay (move t)) line) ++ making is_to_end move n) front
-    ∙ ap (λ (ys : List ℕ). ys ++ making is_to_end move n) stay
+    let shift = shifts xs xs [] c in
+    let front = filter_none (λ t. is_to_front (shift t)) (range_with_len 1 n) (λ t h. (stands_still c (nth_standing xs t)).0) in
+    let ends = filter_none (λ t. is_to_end (shift t)) (range_with_len 1 n) (λ t h. (stands_still c (nth_standing xs t)).1) in
+    let stay = filter_all (λ t. is_stay (shift t)) line (λ t h. (stands_still c (nth_standing xs t)).2 ∙ held t h) in
+    ap (λ (ys : List ℕ). (ys ++ filter (λ t. is_stay (shift t)) line) ++ making is_to_end shift n) front
+    ∙ ap (λ (ys : List ℕ). ys ++ making is_to_end shift n) stay
     ∙ ap (λ (ys : List ℕ). line ++ ys) ends
     ∙ append-nil line
 
@@ -95,7 +95,7 @@ noted_runners k c cluster sound manned t =
     manned t
     ∙ ap (times t) (sym (most_urgent_agree (key_of (standings k)) (urgency k c) (length cluster.cpus) cluster.line (λ u h. urgency_here k c u (line_own k c cluster sound u h))))
 
-cluster_still : (k : Plain) (n c : ℕ) (cluster : ClusterState) → IsClusterSound k c cluster → HasRunners (key_of (standings k)) cluster → settled_cluster (moves (standings k) (standings k) [] c) (key_of (standings k)) n cluster ≡ cluster
+cluster_still : (k : Plain) (n c : ℕ) (cluster : ClusterState) → IsClusterSound k c cluster → HasRunners (key_of (standings k)) cluster → settled_cluster (shifts (standings k) (standings k) [] c) (key_of (standings k)) n cluster ≡ cluster
 cluster_still k n c cluster sound manned =
     let key = key_of (standings k) in
     let m = length cluster.cpus in
@@ -104,10 +104,10 @@ cluster_still k n c cluster sound manned =
     ∙ ap (λ (xs : List (Option ℕ)). (let x : ClusterState = record cluster { cpus = xs } in x)) (assigned_still cluster.cpus (most_urgent key m cluster.line) manned)
 
 -- clusters of a state whose processors have their runners settle to themselves
-clusters_still : (k : Plain) (n c : ℕ) (clusters : List ClusterState) → AllSound k c clusters → AllManned (urgency k) c clusters → settled_from (moves (standings k) (standings k) []) (λ d. key_of (standings k)) n c clusters ≡ clusters
+clusters_still : (k : Plain) (n c : ℕ) (clusters : List ClusterState) → AllSound k c clusters → AllManned (urgency k) c clusters → settled_from (shifts (standings k) (standings k) []) (λ d. key_of (standings k)) n c clusters ≡ clusters
 clusters_still k n c [] sound manned = refl
 clusters_still k n c (cluster ∷ clusters) sound manned =
-    ap (λ (x : ClusterState). x ∷ settled_from (moves (standings k) (standings k) []) (λ d. key_of (standings k)) n (c + 1) clusters) (cluster_still k n c cluster sound.0 (noted_runners k c cluster sound.0 manned.0))
+    ap (λ (x : ClusterState). x ∷ settled_from (shifts (standings k) (standings k) []) (λ d. key_of (standings k)) n (c + 1) clusters) (cluster_still k n c cluster sound.0 (noted_runners k c cluster sound.0 manned.0))
     ∙ ap (λ (xs : List ClusterState). cluster ∷ xs) (clusters_still k n (c + 1) clusters sound.1 manned.1)
 
 -- states of as many standings have as many threads
@@ -118,6 +118,6 @@ as_many k next stand = sym (length-standings next 1 (length next.threads)) ∙ a
 pub settled_still : (k next : Plain) → IsSound k → AreManned k → next.clusters ≡ k.clusters → standings next ≡ standings k → settle k next [] ≡ next
 settled_still k next sound manned same stand =
     sym (settle_noted (standings k) next [] (as_many k next stand ∙ sound.places))
-    ∙ ap (λ (xs : List Standing). (let x : Plain = record next { clusters = settled_from (moves (standings k) xs []) (λ d. key_of xs) 64 0 next.clusters } in x)) stand
-    ∙ ap (λ (cs : List ClusterState). (let x : Plain = record next { clusters = settled_from (moves (standings k) (standings k) []) (λ d. key_of (standings k)) 64 0 cs } in x)) same
+    ∙ ap (λ (xs : List Standing). (let x : Plain = record next { clusters = settled_from (shifts (standings k) xs []) (λ d. key_of xs) 64 0 next.clusters } in x)) stand
+    ∙ ap (λ (cs : List ClusterState). (let x : Plain = record next { clusters = settled_from (shifts (standings k) (standings k) []) (λ d. key_of (standings k)) 64 0 cs } in x)) same
     ∙ ap (λ (cs : List ClusterState). (let x : Plain = record next { clusters = cs } in x)) (clusters_still k 64 0 k.clusters sound.clusters manned ∙ sym same)

@@ -4,11 +4,11 @@ use Rattle.std.proofs.lemmas.Bool.{false≢true}
 use Rattle.std.proofs.lemmas.Bool.Decides.{nat_tests}
 use Rattle.std.proofs.lemmas.List.{drop_more}
 use Rattle.rk_model.specs.declared.settling.Standing.{Standing}
-use Rattle.rk_model.specs.declared.settling.Move.TheVariants.{Stay, Leave, ToEnd, ToFront}
+use Rattle.rk_model.specs.declared.settling.Shift.TheVariants.{Stay, Leave, ToEnd, ToFront}
 use Rattle.rk_model.specs.declared.state.Thread.{Thread}
 use Rattle.rk_model.specs.Lists.{has}
 use Rattle.rk_model.specs.Scheduling.Priorities.{nth_standing}
-use Rattle.rk_model.specs.Scheduling.Settling.{belongs, moves, move_of}
+use Rattle.rk_model.specs.Scheduling.Settling.{belongs, shifts, shift_of}
 use Rattle.rk_model.proofs.CountLemmas.{has-append}
 use Rattle.rk_cluster.specs.declared.moves.Change.{Change}
 use Rattle.rk_cluster.specs.Registers.{with_change}
@@ -17,8 +17,8 @@ use Rattle.rk_parts.specs.Threads.{own_standing, StandAsNoted}
 use Rattle.rk_parts.proofs.StandingLemmas.{standing_of}
 
 -- a thread that stands as before and doesn't go last has no change
-still_none : (c : ℕ) (s : Standing) → change_by (belongs c s) (move_of c s s false) s.prio ≡ None
-unfolding move_of
+still_none : (c : ℕ) (s : Standing) → change_by (belongs c s) (shift_of c s s false) s.prio ≡ None
+unfolding shift_of
 still_none c s = by (belongs c s) (nat_lt s.prio s.prio) (grind (arith, nat_tests)) where
   by : (e b : Bool) → b ≡ false → change_by e (cond (not e) Leave (cond (not e) ToEnd (cond b ToEnd (cond false ToEnd (cond b ToFront Stay))))) s.prio ≡ None
   by true true less = absurd (false≢true (sym less))
@@ -35,7 +35,7 @@ or_second false b h = h
 
 -- the register says of a thread that isn't marked and doesn't go last that nothing changes
 unmarked_none : (marked last : List ℕ) (stood : List Standing) (places : List Thread) (c t : ℕ) → StandAsNoted marked stood places → has (marked ++ last) t ≡ false → register stood (map own_standing places) last c t ≡ None
-unfolding moves
+unfolding shifts
 unmarked_none marked last stood places c t noted none =
     let apart : (has marked t || has last t) ≡ false = sym (has-append marked last t) ∙ none in
     let same : nth_standing (map own_standing places) t ≡ nth_standing stood t = standing_of places t ∙ noted t (or_first _ _ apart) in

@@ -4,7 +4,7 @@ use Rattle.std.proofs.lemmas.List.{drop_more, take_more_set, drop-set-lt, map_pu
 use Rattle.rk_model.specs.declared.state.Armed.{Armed}
 use Rattle.rk_model.specs.declared.settling.Standing.{Standing}
 use Rattle.rk_model.specs.State.{ClusterState}
-use Rattle.rk_model.specs.Scheduling.Settling.{moves}
+use Rattle.rk_model.specs.Scheduling.Settling.{shifts}
 use Rattle.rk_cluster.specs.Clusters.{Cluster, settled}
 use Rattle.rk_model.proofs.AssignmentLemmas.{length-assigned}
 use Rattle.rk_parts.specs.declared.core_state.ClusterPart.{ClusterPart}
@@ -54,16 +54,16 @@ by_parts [] = refl
 by_parts (part ∷ parts) = ap (λ (cs : List ClusterState). cluster_of part ∷ cs) (by_parts parts)
 
 relined_by : (before now : List Standing) (last : List ℕ) (c : ℕ) (parts : List ClusterPart) → AllHeld before c (clusters_of parts) → AllKeyed (key_of before) (linings parts) →
-    clusters_by (relined before now last c (linings parts)) (timers_in parts) ≡ settled_from (moves before now last) (λ d. key_of now) 64 c (clusters_of parts)
+    clusters_by (relined before now last c (linings parts)) (timers_in parts) ≡ settled_from (shifts before now last) (λ d. key_of now) 64 c (clusters_of parts)
 relined_by before now last c [] held keys = refl
 relined_by before now last c (part ∷ parts) held keys =
     let here = settled_by_register before now last c part.lined (settled (register before now last c) part.lined) part.timers held.0 keys.0 refl in
     ap (λ (x : ClusterState). x ∷ clusters_by (relined before now last (c + 1) (linings parts)) (timers_in parts)) here
-    ∙ ap (λ (cs : List ClusterState). settled_cluster (moves before now last c) (key_of now) 64 (cluster_of part) ∷ cs) (relined_by before now last (c + 1) parts held.1 keys.1)
+    ∙ ap (λ (cs : List ClusterState). settled_cluster (shifts before now last c) (key_of now) 64 (cluster_of part) ∷ cs) (relined_by before now last (c + 1) parts held.1 keys.1)
 
 -- and settles the clusters.
 pub parts_settled : (before now : List Standing) (last : List ℕ) (parts news : List ClusterPart) → AllHeld before 0 (clusters_of parts) → AllKeyed (key_of before) (linings parts) → linings news ≡ relined before now last 0 (linings parts) → timers_in news ≡ timers_in parts →
-    clusters_of news ≡ settled_from (moves before now last) (λ d. key_of now) 64 0 (clusters_of parts)
+    clusters_of news ≡ settled_from (shifts before now last) (λ d. key_of now) 64 0 (clusters_of parts)
 parts_settled before now last parts news held keys lined timers =
     by_parts news
     ∙ ap (λ (cs : List Cluster). clusters_by cs (timers_in news)) lined

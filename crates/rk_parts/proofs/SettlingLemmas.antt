@@ -4,13 +4,13 @@ use Rattle.std.specs.List.{filter, range_with_len}
 use Rattle.std.proofs.lemmas.Bool.{false≢true}
 use Rattle.std.proofs.lemmas.Bool.Decides.{nat_tests}
 use Rattle.rk_model.specs.declared.settling.Standing.{Standing}
-use Rattle.rk_model.specs.declared.settling.Move.{Move}
-use Rattle.rk_model.specs.declared.settling.Move.TheVariants.{Stay, Leave, ToEnd, ToFront}
+use Rattle.rk_model.specs.declared.settling.Shift.{Shift}
+use Rattle.rk_model.specs.declared.settling.Shift.TheVariants.{Stay, Leave, ToEnd, ToFront}
 use Rattle.rk_model.specs.Lists.{has}
 use Rattle.rk_model.specs.State.{Plain, ClusterState, no_cluster, cluster_at}
 use Rattle.rk_model.specs.Scheduling.Priorities.{standing, standings_from, standings, is_eligible, home_prio, prio, urgency, nth_standing}
 use Rattle.rk_model.specs.Scheduling.ReadyQueues.{assigned, most_urgent, runners}
-use Rattle.rk_model.specs.Scheduling.Settling.{belongs, move_of, moves, is_stay, is_to_end, is_to_front, making, moved, moved_from, moved_by, assigned_from, settle_by, settle}
+use Rattle.rk_model.specs.Scheduling.Settling.{belongs, shift_of, shifts, is_stay, is_to_end, is_to_front, making, shifted, shifted_from, shifted_by, assigned_from, settle_by, settle}
 use Rattle.rk_model.proofs.CountLemmas.{has-append}
 use Rattle.rk_parts.specs.Settled.{settled_cluster, settled_from}
 use Rattle.rk_parts.specs.Pinned.{key_of}
@@ -41,35 +41,35 @@ pub urgency-with_clusters : (k : Plain) (clusters : List ClusterState) (c t : �
 unfolding urgency prio
 urgency-with_clusters k clusters c t = refl
 
--- clusters that follow the moves and are then assigned, where these are those of a state from a number on
-assigned_moved : (k now : Plain) (move : ℕ → ℕ → Move) (n c : ℕ) (clusters : List ClusterState) → ((d t : ℕ) → urgency k d t ≡ urgency now d t) → ((i : ℕ) → i < length clusters → cluster_at k (c + i) ≡ get_or (moved_from move n c clusters) i no_cluster) →
-    assigned_from k c (moved_from move n c clusters) ≡ settled_from move (urgency now) n c clusters
-assigned_moved k now move n c [] same are = refl
-assigned_moved k now move n c (cluster ∷ clusters) same are =
-    let line = moved (move c) n cluster.line in
+-- clusters that follow the shifts and are then assigned, where these are those of a state from a number on
+assigned_moved : (k now : Plain) (shift : ℕ → ℕ → Shift) (n c : ℕ) (clusters : List ClusterState) → ((d t : ℕ) → urgency k d t ≡ urgency now d t) → ((i : ℕ) → i < length clusters → cluster_at k (c + i) ≡ get_or (shifted_from shift n c clusters) i no_cluster) →
+    assigned_from k c (shifted_from shift n c clusters) ≡ settled_from shift (urgency now) n c clusters
+assigned_moved k now shift n c [] same are = refl
+assigned_moved k now shift n c (cluster ∷ clusters) same are =
+    let line = shifted (shift c) n cluster.line in
     let zero_more : c + 0 ≡ c = omega arith in
     let here : cluster_at k c ≡ (let x : ClusterState = record cluster { line = line } in x) = rw zero_more at (are 0 (omega arith)) in
     let keys : urgency k c ≡ urgency now c = λ i t. same c t i in
     let runs : runners k c ≡ most_urgent (urgency now c) (length cluster.cpus) line =
     ap (λ (x : ClusterState). most_urgent (urgency k c) (length x.cpus) x.line) here ∙ ap (λ (key : ℕ → ℕ). most_urgent key (length cluster.cpus) line) keys in
-    let rest = assigned_moved k now move n (c + 1) clusters same (λ i h. let e : c + suc i ≡ c + 1 + i = omega arith in (rw e at (are (suc i) (omega (arith, h))))) in
-    ap (λ (ts : List ℕ). (let x : ClusterState = record cluster { line = line; cpus = assigned cluster.cpus ts } in x) ∷ assigned_from k (c + 1) (moved_from move n (c + 1) clusters)) runs
-    ∙ ap (λ (cs : List ClusterState). settled_cluster (move c) (urgency now c) n cluster ∷ cs) rest
+    let rest = assigned_moved k now shift n (c + 1) clusters same (λ i h. let e : c + suc i ≡ c + 1 + i = omega arith in (rw e at (are (suc i) (omega (arith, h))))) in
+    ap (λ (ts : List ℕ). (let x : ClusterState = record cluster { line = line; cpus = assigned cluster.cpus ts } in x) ∷ assigned_from k (c + 1) (shifted_from shift n (c + 1) clusters)) runs
+    ∙ ap (λ (cs : List ClusterState). settled_cluster (shift c) (urgency now c) n cluster ∷ cs) rest
 
-length-moved_from : (move : ℕ → ℕ → Move) (n c : ℕ) (clusters : List ClusterState) → length (moved_from move n c clusters) ≡ length clusters
-length-moved_from move n c [] = refl
-length-moved_from move n c (cluster ∷ clusters) = omega (arith, length-moved_from move n (c + 1) clusters)
+length-shifted_from : (shift : ℕ → ℕ → Shift) (n c : ℕ) (clusters : List ClusterState) → length (shifted_from shift n c clusters) ≡ length clusters
+length-shifted_from shift n c [] = refl
+length-shifted_from shift n c (cluster ∷ clusters) = omega (arith, length-shifted_from shift n (c + 1) clusters)
 
 -- Settling settles each cluster by itself.
-pub settle_each : (stood : List Standing) (now : Plain) (last : List ℕ) → settle_by stood now last ≡ (let k : Plain = record now { clusters = settled_from (moves stood (standings now) last) (urgency now) (length now.threads) 0 now.clusters } in k)
+pub settle_each : (stood : List Standing) (now : Plain) (last : List ℕ) → settle_by stood now last ≡ (let k : Plain = record now { clusters = settled_from (shifts stood (standings now) last) (urgency now) (length now.threads) 0 now.clusters } in k)
 settle_each stood now last =
-    let move = moves stood (standings now) last in
+    let shift = shifts stood (standings now) last in
     let n = length now.threads in
-    let k = moved_by stood now last in
+    let k = shifted_by stood now last in
     ap (λ (cs : List ClusterState). (let x : Plain = record now { clusters = cs } in x))
-    (assigned_moved k now move n 0 now.clusters (λ d t. urgency-with_clusters now k.clusters d t) (λ i h. let e : 0 + i ≡ i = omega arith in rw e refl))
+    (assigned_moved k now shift n 0 now.clusters (λ d t. urgency-with_clusters now k.clusters d t) (λ i h. let e : 0 + i ≡ i = omega arith in rw e refl))
 
--- ---- whom a line has after the moves
+-- ---- whom a line has after the shifts
 
 true_filter : (p : ℕ → Bool) (t : ℕ) (xs : List ℕ) → has (filter p xs) t ≡ true → p t ≡ true
 true_filter p t [] h = absurd (false≢true h)
@@ -86,44 +86,44 @@ either : (a b : Bool) (P : Type 0) → (a || b) ≡ true → (a ≡ true → P) 
 either true b P h f g = f refl
 either false b P h f g = g h
 
-asked_belongs : (c : ℕ) (before now : Standing) (last : Bool) (test : Move → Bool) → test Leave ≡ false → test (move_of c before now last) ≡ true → belongs c now ≡ true
-unfolding move_of
+asked_belongs : (c : ℕ) (before now : Standing) (last : Bool) (test : Shift → Bool) → test Leave ≡ false → test (shift_of c before now last) ≡ true → belongs c now ≡ true
+unfolding shift_of
 asked_belongs c before now last test leaves asked = by (belongs c now) asked where
   by : (b : Bool) → test (cond (not b) Leave (cond (not (belongs c before)) ToEnd (cond (nat_lt now.prio before.prio) ToEnd (cond last ToEnd (cond (nat_lt before.prio now.prio) ToFront Stay))))) ≡ true → b ≡ true
   by true h = refl
   by false h = absurd (false≢true (sym leaves ∙ h))
 
-makes_belongs : (before now : List Standing) (last : List ℕ) (c t : ℕ) (test : Move → Bool) → test Leave ≡ false → test (moves before now last c t) ≡ true → belongs c (nth_standing now t) ≡ true
-unfolding moves
+makes_belongs : (before now : List Standing) (last : List ℕ) (c t : ℕ) (test : Shift → Bool) → test Leave ≡ false → test (shifts before now last c t) ≡ true → belongs c (nth_standing now t) ≡ true
+unfolding shifts
 makes_belongs before now last c t test leaves asked = asked_belongs c (nth_standing before t) (nth_standing now t) (has last t) test leaves asked
 
 -- each belongs there
-pub moved_belongs : (before now : List Standing) (last : List ℕ) (c n : ℕ) (line : List ℕ) (t : ℕ) → has (moved (moves before now last c) n line) t ≡ true → belongs c (nth_standing now t) ≡ true
+pub moved_belongs : (before now : List Standing) (last : List ℕ) (c n : ℕ) (line : List ℕ) (t : ℕ) → has (shifted (shifts before now last c) n line) t ≡ true → belongs c (nth_standing now t) ≡ true
 moved_belongs before now last c n line t h =
-    let move = moves before now last c in
-    let front = making is_to_front move n in
-    let stay = filter (λ u. is_stay (move u)) line in
-    let behind = making is_to_end move n in
+    let shift = shifts before now last c in
+    let front = making is_to_front shift n in
+    let stay = filter (λ u. is_stay (shift u)) line in
+    let behind = making is_to_end shift n in
     either (has (front ++ stay) t) (has behind t) _ (sym (has-append (front ++ stay) behind t) ∙ h)
     (λ f. either (has front t) (has stay t) _ (sym (has-append front stay t) ∙ f)
-    (λ g. makes_belongs before now last c t is_to_front refl (true_filter (λ u. is_to_front (move u)) t (range_with_len 1 n) g))
-    (λ g. makes_belongs before now last c t is_stay refl (true_filter (λ u. is_stay (move u)) t line g)))
-    (λ f. makes_belongs before now last c t is_to_end refl (true_filter (λ u. is_to_end (move u)) t (range_with_len 1 n) f))
+    (λ g. makes_belongs before now last c t is_to_front refl (true_filter (λ u. is_to_front (shift u)) t (range_with_len 1 n) g))
+    (λ g. makes_belongs before now last c t is_stay refl (true_filter (λ u. is_stay (shift u)) t line g)))
+    (λ f. makes_belongs before now last c t is_to_end refl (true_filter (λ u. is_to_end (shift u)) t (range_with_len 1 n) f))
 
 -- clusters settle alike by priorities that agree for those that belong there
 settled_alike : (before now : List Standing) (last : List ℕ) (key other : ℕ → ℕ → ℕ) (n c : ℕ) (clusters : List ClusterState) → ((d t : ℕ) → belongs d (nth_standing now t) ≡ true → key d t ≡ other d t) →
-    settled_from (moves before now last) key n c clusters ≡ settled_from (moves before now last) other n c clusters
+    settled_from (shifts before now last) key n c clusters ≡ settled_from (shifts before now last) other n c clusters
 settled_alike before now last key other n c [] same = refl
 settled_alike before now last key other n c (cluster ∷ clusters) same =
-    let line = moved (moves before now last c) n cluster.line in
+    let line = shifted (shifts before now last c) n cluster.line in
     let runs = most_urgent_agree (key c) (other c) (length cluster.cpus) line (λ t h. same c t (moved_belongs before now last c n cluster.line t h)) in
-    ap (λ (ts : List ℕ). (let x : ClusterState = record cluster { line = line; cpus = assigned cluster.cpus ts } in x) ∷ settled_from (moves before now last) key n (c + 1) clusters) runs
-    ∙ ap (λ (cs : List ClusterState). settled_cluster (moves before now last c) (other c) n cluster ∷ cs) (settled_alike before now last key other n (c + 1) clusters same)
+    ap (λ (ts : List ℕ). (let x : ClusterState = record cluster { line = line; cpus = assigned cluster.cpus ts } in x) ∷ settled_from (shifts before now last) key n (c + 1) clusters) runs
+    ∙ ap (λ (cs : List ClusterState). settled_cluster (shifts before now last c) (other c) n cluster ∷ cs) (settled_alike before now last key other n (c + 1) clusters same)
 
 -- Settling by the priorities that are noted is settling.
-pub settle_noted : (stood : List Standing) (now : Plain) (last : List ℕ) → length now.threads ≡ 64 → (let k : Plain = record now { clusters = settled_from (moves stood (standings now) last) (λ d. key_of (standings now)) 64 0 now.clusters } in k) ≡ settle_by stood now last
+pub settle_noted : (stood : List Standing) (now : Plain) (last : List ℕ) → length now.threads ≡ 64 → (let k : Plain = record now { clusters = settled_from (shifts stood (standings now) last) (λ d. key_of (standings now)) 64 0 now.clusters } in k) ≡ settle_by stood now last
 settle_noted stood now last size =
     ap (λ (cs : List ClusterState). (let k : Plain = record now { clusters = cs } in k))
     (settled_alike stood (standings now) last (λ d. key_of (standings now)) (urgency now) 64 0 now.clusters (λ d t h. urgency_here now d t h)
-    ∙ ap (λ n. settled_from (moves stood (standings now) last) (urgency now) n 0 now.clusters) (sym size))
+    ∙ ap (λ n. settled_from (shifts stood (standings now) last) (urgency now) n 0 now.clusters) (sym size))
     ∙ sym (settle_each stood now last)

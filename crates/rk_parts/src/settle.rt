@@ -3,7 +3,7 @@
 ghost use Rattle.std.specs.Prelude.{◌≡◌, ◌≤◌, map, length};
 ghost use Rattle.std.specs.Option.{option_to_list};
 ghost use Rattle.rk_model.specs.Lists.{has};
-ghost use Rattle.rk_model.specs.Scheduling.Settling.{is_cluster, move_of, settle_by};
+ghost use Rattle.rk_model.specs.Scheduling.Settling.{is_cluster, shift_of, settle_by};
 ghost use Rattle.rk_cluster.specs.Clusters.{settled};
 ghost use Rattle.rk_cluster.specs.Registers.{change_at};
 ghost use Rattle.rk_parts.specs.Threads.{own_standing};
@@ -15,7 +15,7 @@ use crate::core_state::{ClusterPart, Core};
 use crate::standing::own;
 use crate::threads::Threads;
 use rk_cluster::{Change, Moves};
-use rk_model::{Items, Move, Prio, Standing, ThreadIx};
+use rk_model::{Items, Shift, Prio, Standing, ThreadIx};
 
 /// Whether this is the number of a cluster.
 fn is_number(cluster: u8, number: Option<u8>) -> bool
@@ -28,34 +28,34 @@ fn is_number(cluster: u8, number: Option<u8>) -> bool
 }
 
 /// What settling asks in a cluster of a thread that stood and stands like this.
-#[tactic(auto, unfolding(rk_model::specs::Scheduling::Settling::move_of))]
-fn compare(cluster: u8, before: &Standing, now: &Standing, last: bool) -> Move
-    ensures { result ≡ move_of cluster before.now now.now last }
+#[tactic(auto, unfolding(rk_model::specs::Scheduling::Settling::shift_of))]
+fn compare(cluster: u8, before: &Standing, now: &Standing, last: bool) -> Shift
+    ensures { result ≡ shift_of cluster before.now now.now last }
 {
     if !is_number(cluster, now.cluster) {
-        Move::Leave
+        Shift::Leave
     } else if !is_number(cluster, before.cluster)
         || now.prio.level() < before.prio.level()
         || last
     {
-        Move::ToEnd
+        Shift::ToEnd
     } else if before.prio.level() < now.prio.level() {
-        Move::ToFront
+        Shift::ToFront
     } else {
-        Move::Stay
+        Shift::Stay
     }
 }
 
-/// The change of a thread with this move and this priority, which stood in the line before or
+/// The change of a thread with this shift and this priority, which stood in the line before or
 /// didn't; none where it stays, and where it neither stood there nor comes there.
-fn change_for(stood: bool, asked: Move, prio: Prio) -> Option<Change>
+fn change_for(stood: bool, asked: Shift, prio: Prio) -> Option<Change>
     ensures { result ≡ change_by stood asked prio }
 {
     match asked {
-        Move::Stay => None,
-        Move::ToEnd => Some(Change::ToEnd(prio)),
-        Move::ToFront => Some(Change::ToFront(prio)),
-        Move::Leave => { if stood { Some(Change::Leave) } else { None } }
+        Shift::Stay => None,
+        Shift::ToEnd => Some(Change::ToEnd(prio)),
+        Shift::ToFront => Some(Change::ToFront(prio)),
+        Shift::Leave => { if stood { Some(Change::Leave) } else { None } }
     }
 }
 
@@ -70,7 +70,7 @@ fn goes_last(last: &Option<ThreadIx>, thread: ThreadIx) -> bool
 }
 
 /// The change of a thread in the register of a cluster.
-#[tactic(auto, using(crate::proofs::StandingLemmas::standing_of), unfolding(rk_model::specs::Scheduling::Settling::moves))]
+#[tactic(auto, using(crate::proofs::StandingLemmas::standing_of), unfolding(rk_model::specs::Scheduling::Settling::shifts))]
 fn change_of(
     threads: &Threads,
     last: &Option<ThreadIx>,

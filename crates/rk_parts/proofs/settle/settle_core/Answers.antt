@@ -3,7 +3,7 @@ use Rattle.std.specs.Option.{option_to_list}
 use Rattle.rk_model.specs.State.{Plain, ClusterState}
 use Rattle.rk_model.specs.declared.settling.Standing.{Standing}
 use Rattle.rk_model.specs.Scheduling.Priorities.{standings}
-use Rattle.rk_model.specs.Scheduling.Settling.{moves}
+use Rattle.rk_model.specs.Scheduling.Settling.{shifts}
 use Rattle.rk_cluster.specs.Clusters.{Cluster}
 use Rattle.rk_parts.specs.Pieces.{plain_of, clusters_of}
 use Rattle.rk_parts.specs.Threads.{own_standing}
@@ -23,7 +23,7 @@ returns-clause-settled c =
     let now = map own_standing core.threads.places in
     let made = parts_settled before now last core.clusters c.settle_all.new.clusters c.requires.lines c.requires.keyed c.settle_all.ensures.lined c.settle_all.ensures.timers in
     let same : now ≡ standings k = sym (standings_own k) in
-    rw c.note.ensures (ap (λ (cs : List ClusterState). (let x : Plain = record k { clusters = cs } in x)) (made ∙ ap (λ (xs : List Standing). settled_from (moves before xs last) (λ d. key_of xs) 64 0 k.clusters) same)
+    rw c.note.ensures (ap (λ (cs : List ClusterState). (let x : Plain = record k { clusters = cs } in x)) (made ∙ ap (λ (xs : List Standing). settled_from (shifts before xs last) (λ d. key_of xs) 64 0 k.clusters) same)
     ∙ settle_noted before k last c.marked-marked.ensures.places)
 
 pub returns-clause-noted : goal.returns-clause-noted
