@@ -5,7 +5,7 @@ use crate::numbers::Name;
 use crate::scenario::{Op, Target};
 
 /// A line of each form. What its operands are is of no account.
-pub const FORMS: [Op; 10] = [
+pub const FORMS: &[Op] = &[
     Op::Work(1),
     Op::Goto(1),
     Op::TaskCreate(Name { bits: 0 }, 0, 0),
@@ -38,10 +38,11 @@ impl Op {
     }
 
     /// A line of the form that has this first word.
+    #[tactic(auto, unfolding(crate::specs::Text::Forms::form_in))]
     pub fn of_word(word: &[u8]) -> Option<Op>
         ensures { result ≡ form_in word.now }
     {
-        find(FORMS.as_slice(), word)
+        find(FORMS, word)
     }
 }
 

@@ -128,8 +128,8 @@ pub op_ok : (told : Known) (words : List (List ℕ)) (op : Op) → op_line told 
 unfolding op_line form_in
 op_ok told [] op e = absurd cc
 op_ok told (first ∷ words) op e =
-    let k = line_like_ok told (form_from FORMS first) words op e in
-    subst (λ (word : List ℕ). IsOp told (word ∷ words) op) (form_is_of FORMS first k.0 k.1) k.2
+    let k = line_like_ok told (form_from FORMS.now first) words op e in
+    subst (λ (word : List ℕ). IsOp told (word ∷ words) op) (form_is_of FORMS.now first k.0 k.1) k.2
 
 like_line : (told : Known) (o : Option Op) (form : Form) (words : List (List ℕ)) → option_map form_of o ≡ Some form → line_like told o words ≡ form_line told form words
 like_line told None form words e = absurd cc

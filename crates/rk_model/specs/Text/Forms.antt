@@ -76,4 +76,4 @@ form_from (op ∷ ops) word = if bytes_eq (word_of op) word then Some op else fo
 
 -- an op of the form that has the first word
 unfoldable pub form_in : List ℕ → Option Op
-form_in word = form_from FORMS word
+form_in word = form_from FORMS.now word
