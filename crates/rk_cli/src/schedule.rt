@@ -8,7 +8,7 @@ ghost use Rattle.rk_model.specs.Text.Scenarios.{IsScenario};
 ghost use Rattle.rk_model.specs.Text.Schedules.{first_word, reply_text, answer_text, name_in, seat_text, place_text, directive_text, view_text, views_from, tick_text, entry_text, text_from, last_text, schedule_text};
 
 use crate::pieces::{push_bytes, push_decimal, push_hex, push_text};
-use rk_kernel::{Parts, cpus_of, open_parts, replay, run_view, scenario_of, tick_of};
+use rk_kernel::{Parts, open_parts, replay, run_view};
 use rk_model::{Entry, NoMemory, Op, Scenario, Status, View, What};
 use std::alloc::Global;
 
@@ -122,7 +122,7 @@ fn push_view(out: &mut Vec<u8>, parts: &Parts, cpu: u8) -> Result<(), NoMemory>
 fn push_views(out: &mut Vec<u8>, parts: &Parts) -> Result<(), NoMemory>
     ensures { OnOk result (out.new.items ≡ out.old.items ++ views_from parts.now 0 (cpu_count parts.now)) }
 {
-    let count = cpus_of(parts);
+    let count = parts.cpus();
     for cpu in 0..count {
         push_view(out, parts, cpu)?;
     }
@@ -135,7 +135,7 @@ fn push_tick(out: &mut Vec<u8>, parts: &Parts) -> Result<(), NoMemory>
     ensures { OnOk result (out.new.items ≡ out.old.items ++ tick_text parts.now) }
 {
     push_text(out, "tick ")?;
-    push_decimal(out, tick_of(parts) + 1)?;
+    push_decimal(out, parts.tick() + 1)?;
     push_views(out, parts)?;
     push_bytes(out, b"\n".as_slice())
 }
@@ -146,7 +146,7 @@ fn push_entry(out: &mut Vec<u8>, parts: &Parts, entry: &Entry) -> Result<(), NoM
     ensures { OnOk result (out.new.items ≡ out.old.items ++ entry_text parts.now entry.now entry.now.what) }
 {
     match entry.what {
-        What::Call | What::Return => push_directive(out, scenario_of(parts), entry),
+        What::Call | What::Return => push_directive(out, parts.scenario(), entry),
         What::Tick => push_tick(out, parts),
         What::End => Ok(()),
     }

@@ -10,7 +10,7 @@ ghost use Rattle.rk_kernel.specs.SchedulingLaws.{RefusesAlone};
 use crate::clock::tick_core;
 use crate::opening::make_opening;
 use crate::steps::{CoreStep, CoreTick, step_core};
-use rk_model::limits::CLOCK;
+use rk_model::limits::{CLOCK, MOST_PROCESSORS, MOST_TICKS};
 use rk_model::{Entry, History, NoMemory, Scenario, View, What};
 use rk_parts::core_state::Core;
 use rk_parts::processors::{count_cpus, least_of, view_on};
@@ -37,6 +37,31 @@ impl Model for Parts {
     ghost invariant = { λ p. IsSound (plain_of p.core) × AreManned (plain_of p.core) × IsNoted p.core };
 }
 
+impl Parts {
+    /// How many processors there are, from 1 to 8.
+    pub fn cpus(&self) -> u8
+        ensures count { result ≡ cpu_count self.now }
+        ensures few { result ≤ MOST_PROCESSORS }
+    {
+        count_cpus(self.core.clusters.as_slice()) as u8
+    }
+
+    /// The present tick, at most 1,000,000.
+    pub fn tick(&self) -> u32
+        ensures value { result ≡ self.now.present }
+        ensures small { result ≤ MOST_TICKS }
+    {
+        self.core.present
+    }
+
+    /// The scenario that is run.
+    pub fn scenario(&self) -> &Scenario
+        ensures { result.now ≡ self.now.scenario }
+    {
+        &self.core.scenario
+    }
+}
+
 /// The parts of the opening state of a scenario. It takes all the room that the run needs.
 ///
 /// # Errors
@@ -50,7 +75,7 @@ pub fn open_parts(alloc: Global, scenario: &Scenario) -> Result<Parts, NoMemory>
     Ok(Parts { core })
 }
 
-/// A step of a processor, whose number is below `cpus_of`: its directive, or why it has none. A
+/// A step of a processor, whose number is below `Parts::cpus`: its directive, or why it has none. A
 /// directive that refuses changes its caller alone: its place, the work that it has there, and its
 /// result variable. It takes no memory.
 pub fn step_all(parts: &mut Parts, cpu: u8) -> CoreStep
@@ -68,7 +93,7 @@ pub fn tick_all(parts: &mut Parts) -> CoreTick
     tick_core(&mut parts.core)
 }
 
-/// What a processor does, whose number is below `cpus_of`.
+/// What a processor does, whose number is below `Parts::cpus`.
 pub fn run_view(parts: &Parts, cpu: u8) -> View
     requires { cpu < cpu_count parts.now }
     ensures { result ≡ running parts.now cpu }
@@ -76,42 +101,19 @@ pub fn run_view(parts: &Parts, cpu: u8) -> View
     view_on(&parts.core, cpu as usize)
 }
 
-/// How many processors there are, 1 to 8.
-pub fn cpus_of(parts: &Parts) -> u8
-    ensures count { result ≡ cpu_count parts.now }
-    ensures few { result ≤ 8 }
-{
-    count_cpus(parts.core.clusters.as_slice()) as u8
-}
-
-/// The present tick, at most 1,000,000.
-pub fn tick_of(parts: &Parts) -> u32
-    ensures value { result ≡ parts.now.present }
-    ensures small { result ≤ 1000000 }
-{
-    parts.core.present
-}
-
-/// The scenario that is run.
-pub fn scenario_of(parts: &Parts) -> &Scenario
-    ensures { result.now ≡ parts.now.scenario }
-{
-    &parts.core.scenario
-}
-
-/// Does again what a seat does: a processor from 0 to 7, or the clock, 8. Nothing where it does
-/// nothing. It takes no memory.
+/// Replays one action of a seat, a processor from 0 to 7 or the clock, 8; does nothing if that seat
+/// has none. It takes no memory.
 pub fn replay(parts: &mut Parts, seat: u8)
     ensures { parts.new ≡ next_of parts.old (act parts.old seat) }
 {
     if seat == CLOCK {
         tick_all(parts);
-    } else if seat < cpus_of(parts) {
+    } else if seat < parts.cpus() {
         step_all(parts, seat);
     }
 }
 
-/// The least processor that has a directive.
+/// The lowest-numbered processor that has a directive.
 fn least_in(parts: &Parts) -> Option<u8>
     ensures least { result ≡ least parts.now }
     ensures found { IfSome result (λ cpu. IsSome (caller parts.now cpu) × (cpu < cpu_count parts.now) × (cpu < 8)) }
@@ -134,7 +136,7 @@ fn entry_of_clock(what: What) -> Entry
     }
 }
 
-/// The least processor that has a directive acts, else the clock.
+/// The lowest-numbered processor with a directive executes it; if none has one, the clock acts.
 fn step_least(parts: &mut Parts) -> Entry
     ensures { act parts.old (turn parts.old) ≡ Some (record { entry = result; next = parts.new }) }
 {
@@ -151,8 +153,8 @@ fn step_least(parts: &mut Parts) -> Entry
     }
 }
 
-/// The history in which always the least processor that has a directive acts, else the clock, up to
-/// the end of the run or to the scenario's limit of entries.
+/// The planned history: at each step the lowest-numbered processor with a directive executes it; if
+/// none has one, the clock ticks; up to the end of the run or the scenario's limit of entries.
 ///
 /// # Errors
 ///

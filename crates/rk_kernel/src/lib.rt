@@ -9,9 +9,6 @@ pub mod laws;
 mod opening;
 mod steps;
 
-pub use kernel::{
-    Parts, cpus_of, open_parts, replay, run_lowest, run_view, scenario_of, step_all, tick_all,
-    tick_of,
-};
+pub use kernel::{Parts, open_parts, replay, run_lowest, run_view, step_all, tick_all};
 pub use rk_model::View;
 pub use steps::{CoreStep, CoreTick};
