@@ -23,7 +23,7 @@ why_text NotYetBuilt = codes "NotYetBuilt"
 unfoldable pub refusal_text : Fault → List ℕ
 refusal_text fault = codes "scenario line " ++ decimal fault.line ++ codes ": " ++ why_text fault.why ++ 10 ∷ []
 
--- the history of a scenario that is planned: always the least processor that has a directive acts, else the clock, up to End or to the scenario's limit
+-- the history of a scenario that is planned: always the lowest-numbered processor that has a directive acts, else the clock, up to End or to the scenario's limit
 abbrev pub planned : Scenario → List Entry
 planned s = lowest s s.limit
 

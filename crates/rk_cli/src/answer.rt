@@ -31,7 +31,7 @@ pub(crate) enum Answer {
     /// The source failed.
     ReadFault,
 
-    /// Memory was wanted and not there.
+    /// Out of memory.
     NoMemory,
 }
 

@@ -1,4 +1,4 @@
-//! What the command line does: it reads a scenario and writes the schedule of its least history.
+//! What the command line does: it reads a scenario and writes the schedule of its planned history.
 #![tactic(auto)]
 
 mod answer;

@@ -206,7 +206,7 @@ pub(crate) fn ends_with_end(entries: &[Entry]) -> bool
 ///
 /// # Errors
 ///
-/// `NoMemory` where memory was wanted and not there.
+/// `NoMemory` where memory ran out.
 pub fn write_schedule(
     alloc: Global,
     scenario: &Scenario,

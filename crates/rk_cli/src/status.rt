@@ -9,7 +9,7 @@ pub(crate) const USAGE: u8 = 1;
 /// The text that was read is no scenario's.
 pub(crate) const REFUSED: u8 = 2;
 
-/// Memory was wanted and not there.
+/// Out of memory.
 pub(crate) const NO_MEMORY: u8 = 3;
 
 /// The schedule was written, and its history was cut at the scenario's limit.

@@ -70,11 +70,11 @@ fn plan<S: Source, K: Sink>(alloc: Global, source: &mut S, sink: &mut K) -> u8
     }
 }
 
-/// Does what the words say, and answers the status with which the program ends.
+/// Does what the words say, and returns the status with which the program ends.
 ///
-/// The one word `plan` reads a scenario from the source, to its end, and writes the schedule of the
-/// history in which always the least processor that has a directive acts, else the clock. For any
-/// other words it writes how the program is called, and reads nothing.
+/// The one word `plan` reads a scenario from the source, to its end, and writes the schedule of its
+/// planned history: at each step the lowest-numbered processor with a directive executes it; if none
+/// has one, the clock ticks. Any other words print the usage text and read nothing.
 ///
 /// The status is
 ///
@@ -82,7 +82,7 @@ fn plan<S: Source, K: Sink>(alloc: Global, source: &mut S, sink: &mut K) -> u8
 /// - 1 where the words are others;
 /// - 2 where the text that was read is no scenario's, and the refusal `scenario line L: WHY` was
 ///   written: the line, from 1, or 0 for the whole text, and what is wrong with it;
-/// - 3 where memory was wanted and not there;
+/// - 3 where memory ran out;
 /// - 4 where the schedule was written, and its history was cut at the scenario's limit;
 /// - 5 where the source failed; then nothing was written;
 /// - 6 where the sink failed.

@@ -17,7 +17,7 @@ pub record Cluster : Type 0 where
 abbrev pub empty_cluster : ℕ → ℕ → ℕ → Cluster
 empty_cluster number first cpus = record { number = number; first = first; line = []; cpus = replicate cpus None }
 
--- the runners of so many processors: the threads of a line with fewer more urgent ones, the most urgent first
+-- the runners of so many processors: the threads of a ready queue with fewer more urgent ones, the most urgent first
 abbrev pub runners_of : ℕ → List Place → List ℕ
 runners_of cpus line = most_urgent (prio_in line) cpus (threads line)
 

@@ -34,7 +34,7 @@ pub(crate) fn is_on_cpu(cpus: &[Option<ThreadIx>], thread: ThreadIx) -> bool
     false
 }
 
-/// Puts the runners of so many processors into `out`, the most urgent first.
+/// Puts the scheduled threads of so many processors into `out`, the most urgent first.
 fn find_runners(out: &mut Few, line: &Line, cpus: u8)
     requires { cpus ≤ 8 }
     ensures found { out.new ≡ runners_of cpus line.now }
@@ -48,7 +48,7 @@ fn find_runners(out: &mut Few, line: &Line, cpus: u8)
     }
 }
 
-/// Puts those of the runners that no processor has into `out`.
+/// Puts those of the scheduled threads that no processor has into `out`.
 fn find_fresh(out: &mut Few, cpus: &[Option<ThreadIx>], running: &[ThreadIx])
     requires { length running.now ≤ 8 }
     ensures { out.new ≡ filter (λ t. not (has_cpu cpus.now t)) running.now }
@@ -61,7 +61,7 @@ fn find_fresh(out: &mut Few, cpus: &[Option<ThreadIx>], running: &[ThreadIx])
     }
 }
 
-/// Takes away the processors' threads that are no runners.
+/// Takes away the processors' threads that aren't scheduled ones.
 fn keep(cpus: &mut Items<Option<ThreadIx>>, running: &[ThreadIx])
     ensures { cpus.new ≡ map (kept running.now) cpus.old }
 {
@@ -87,7 +87,7 @@ fn fill(cpus: &mut Items<Option<ThreadIx>>, threads: &[ThreadIx])
     }
 }
 
-/// Assigns the processors by a line. `running` and `fresh` are room for it.
+/// Assigns the processors by a ready queue. `running` and `fresh` are room for it.
 pub(crate) fn assign(
     cpus: &mut Items<Option<ThreadIx>>,
     line: &Line,

@@ -11,15 +11,15 @@ use rk_model::{Bounded, Items, NoMemory, ThreadIx};
 use std::alloc::Global;
 use std::marker::Model;
 
-/// A cluster. Contracts see its number, its first processor, its line, and the thread that each of
-/// its processors has.
+/// A cluster. Contracts see its number, its first processor, its ready queue, and the thread that
+/// each of its processors has.
 #[derive(Debug, Drop)]
 pub struct Cluster {
     number: u8,
     first: u8,
     line: Line,
     cpus: Items<Option<ThreadIx>>,
-    /// Room for the runners, as they are found.
+    /// Room for the scheduled threads, as they are found.
     running: Few,
     /// Room for those of them that no processor has.
     fresh: Few,
@@ -38,11 +38,11 @@ impl Model for Cluster {
 
 impl Cluster {
     /// A cluster of so many processors, whose first has the number `first` among those of all
-    /// clusters. Its line is empty, and no processor has a thread.
+    /// clusters. Its ready queue is empty, and no processor has a thread.
     ///
     /// # Errors
     ///
-    /// `NoMemory` where there is no memory for its line and processors.
+    /// `NoMemory` where there is no memory for its ready queue and processors.
     pub fn new(alloc: Global, number: u8, first: u8, cpus: u8) -> Result<Cluster, NoMemory>
         requires number { number < 4 }
         requires cpus { first + cpus ≤ 8 }
@@ -59,9 +59,9 @@ impl Cluster {
         })
     }
 
-    /// Applies the changes to the line, and assigns the processors by it. A runner that had a
-    /// processor keeps it; the others, the most urgent first, take the free processors in rising
-    /// number. It takes no memory.
+    /// Applies the changes to the ready queue, and assigns the processors by it. A scheduled thread
+    /// that had a processor keeps it; the others, the most urgent first, take the free processors
+    /// in rising number. It takes no memory.
     pub fn settle(&mut self, moves: &Moves)
         ensures { self.new ≡ settled (change_at moves.now) self.old }
     {

@@ -1,4 +1,4 @@
-//! A cluster: its line and the threads of its processors, and how they settle after a change.
+//! A cluster: its ready queue and the threads of its processors, and how they settle after a change.
 #![tactic(auto)]
 
 mod assign;

@@ -13,13 +13,13 @@ use std::marker::Model;
 /// What settling does to a thread of a cluster.
 #[derive(Clone, Copy, Debug, PartialEq, Eq)]
 pub enum Change {
-    /// It leaves the line, where it is in it.
+    /// It leaves the ready queue, where it is in it.
     Leave,
-    /// It goes to the end of the line, with this priority, or comes there anew.
+    /// It goes to the end of the ready queue, with this priority, or comes there anew.
     ToEnd(Prio),
-    /// It goes to the front of the line, with this priority, or comes there anew.
+    /// It goes to the front of the ready queue, with this priority, or comes there anew.
     ToFront(Prio),
-    /// It keeps its place in the line, where it has one, with this priority.
+    /// It keeps its place in the ready queue, where it has one, with this priority.
     Stay(Prio),
 }
 
@@ -44,7 +44,7 @@ impl Model for Moves {
     ghost invariant = { λ m. (length m.changes ≡ 64) × AreMarked m.marks m.changes };
 }
 
-/// Takes a thread out of a line, where it stands there.
+/// Takes a thread out of a ready queue, where it stands there.
 fn take_out(line: &mut Line, thread: ThreadIx)
     ensures { line.new ≡ without thread line.old }
 {
@@ -53,7 +53,7 @@ fn take_out(line: &mut Line, thread: ThreadIx)
     }
 }
 
-/// Gives a thread another priority at its place in a line, where it stands there.
+/// Gives a thread another priority at its place in a ready queue, where it stands there.
 fn change_in(line: &mut Line, thread: ThreadIx, prio: Prio)
     ensures { line.new ≡ with_prio thread prio line.old }
 {
@@ -62,7 +62,7 @@ fn change_in(line: &mut Line, thread: ThreadIx, prio: Prio)
     }
 }
 
-/// Applies one thread's change to a line. A thread that goes to the end is taken out.
+/// Applies one thread's change to a ready queue. A thread that goes to the end is taken out.
 fn apply_but_end(line: &mut Line, thread: ThreadIx, change: Option<Change>)
     ensures { line.new ≡ changed_but_end thread change line.old }
 {
@@ -77,7 +77,7 @@ fn apply_but_end(line: &mut Line, thread: ThreadIx, change: Option<Change>)
     }
 }
 
-/// Applies the changes of all threads to a line. The threads that go to the end are taken out.
+/// Applies the changes of all threads to a ready queue. The threads that go to the end are taken out.
 fn apply_but_ends(changes: &[Option<Change>], marks: u64, line: &mut Line)
     requires size { length changes.now ≡ 64 }
     requires marked { AreMarked marks changes.now }
@@ -93,7 +93,7 @@ fn apply_but_ends(changes: &[Option<Change>], marks: u64, line: &mut Line)
     }
 }
 
-/// Puts a thread that goes to the end of a line there.
+/// Puts a thread that goes to the end of a ready queue there.
 fn append_end(line: &mut Line, thread: ThreadIx, change: Option<Change>)
     requires { IsOut thread change line.old }
     ensures { line.new ≡ line.old ++ end_place thread change }
@@ -104,7 +104,7 @@ fn append_end(line: &mut Line, thread: ThreadIx, change: Option<Change>)
     }
 }
 
-/// Puts the threads that go to the end of a line there, in rising index.
+/// Puts the threads that go to the end of a ready queue there, in rising index.
 fn append_ends(changes: &[Option<Change>], marks: u64, line: &mut Line)
     requires size { length changes.now ≡ 64 }
     requires marked { AreMarked marks changes.now }
@@ -166,7 +166,7 @@ impl Moves {
         self.marks == 0
     }
 
-    /// Applies the changes to a line. It takes no memory.
+    /// Applies the changes to a ready queue. It takes no memory.
     pub(crate) fn apply(&self, line: &mut Line)
         ensures { line.new ≡ moved (change_at self.now) line.old }
     {

@@ -74,7 +74,7 @@ cut_from (suc n) k before sound unended =
     let rest = cut_behind (is_end step.0.entry.what) (lowest_from n step.0.next) n (cut_from n step.0.next (is_end step.0.entry.what) (sound_act k (turn k) step.0 sound step.1)) unended' in
     rw step.1 (omega (arith, rest))
 
--- a history that always the least processor that has a directive made, and that was cut, has as many entries as it may have
+-- a history that always the lowest-numbered processor that has a directive made, and that was cut, has as many entries as it may have
 pub cut_lowest : (s : Scenario) (n : ℕ) → IsScenario s → ends (lowest s n) ≡ false → length (lowest s n) ≡ n
 cut_lowest s n known unended = cut_from n (opening s) false (sound_opening s (limits_of s known)) (sym (ends_is (lowest s n)) ∙ unended)
 

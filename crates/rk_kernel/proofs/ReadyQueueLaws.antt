@@ -1,4 +1,4 @@
--- The line of each cluster holds its eligible threads, each once.
+-- The ready queue of each cluster holds its eligible threads, each once.
 use Rattle.std.proofs.Common.{◌≡◌, ℕ, zero, suc, ◌+◌, ◌<◌, List, [], ◌∷◌, length, arith, ◌∙◌}
 use Rattle.std.specs.List.{slice_index_or}
 use Rattle.rk_model.specs.State.{Plain, ClusterState, no_cluster, cluster_at}

@@ -16,7 +16,7 @@ use Rattle.rk_parts.proofs.StandingLemmas.{standings_say}
 use Rattle.rk_kernel.specs.Sound.{stands, own}
 use Rattle.rk_kernel.proofs.CallerLemmas.{stands_eligible}
 
--- ---- who belongs in the line of a cluster
+-- ---- who belongs in the ready queue of a cluster
 
 and_true : (b : Bool) → (b && true) ≡ b
 and_true true = refl
@@ -74,7 +74,7 @@ one_place true true false true gt n = omega arith
 one_place true true false false true n = omega arith
 one_place true true false false false n = omega arith
 
--- how often a thread that belongs in the line of a cluster stands among so many threads
+-- how often a thread that belongs in the ready queue of a cluster stands among so many threads
 abbrev placed : List Standing → ℕ → ℕ → ℕ → ℕ
 placed stood n c t = cond (belongs c (nth_standing stood t)) (times t (range_with_len 1 n)) 0
 

@@ -30,7 +30,7 @@ use Rattle.rk_kernel.specs.Sound.{stands, has_action}
 abbrev pub AfterEach : (Plain → Type 0) → Type 0
 AfterEach Holds = (s : Scenario) (xs : List Entry) → IsScenario s → Legal s xs → Holds (after s xs)
 
--- The line of each cluster holds exactly the eligible threads of that home, each once.
+-- The ready queue of each cluster holds exactly the eligible threads of that home, each once.
 abbrev pub HoldsItsOwn : Plain → Type 0
 HoldsItsOwn k = (c t : ℕ) → c < length k.clusters → times t (cluster_at k c).line ≡ (if stands k c t then 1 else 0)
 
@@ -44,12 +44,12 @@ seats t [] = 0
 seats t (None ∷ cpus) = seats t cpus
 seats t (Some u ∷ cpus) = (if u == t then 1 else 0) + seats t cpus
 
--- The processors of a cluster have exactly its runners: as many processors have a thread as it stands among them, which is once or never.
+-- The processors of a cluster have exactly its scheduled threads: as many processors have a thread as it stands among them, which is once or never.
 pub record IsManned (k : Plain) (c : ℕ) : Type 0 where
   pub once : (t : ℕ) → times t (runners k c) ≤ 1
   pub manned : (t : ℕ) → seats t (cluster_at k c).cpus ≡ times t (runners k c)
 
--- The processors of each cluster have exactly its runners, each on one processor.
+-- The processors of each cluster have exactly its scheduled threads, each on one processor.
 abbrev pub ProcessorsHaveTheRunners : Type 0
 ProcessorsHaveTheRunners = AfterEach (λ k. (c : ℕ) → c < length k.clusters → IsManned k c)
 
@@ -85,7 +85,7 @@ NamesAndObjectsAgree = AfterEach (λ k. (class : Class) → HasNames k class)
 abbrev pub NothingIsLeftOfDeletedTasks : Type 0
 NothingIsLeftOfDeletedTasks = AfterEach (λ k. (t : ℕ) → is_live k Task t ≡ false → thread_at k t ≡ no_thread)
 
--- The history in which always the least processor that has a directive acts ends with End, or has as many entries as it may have.
+-- The history in which always the lowest-numbered processor that has a directive acts ends with End, or has as many entries as it may have.
 abbrev pub LowestGoesOn : Type 0
 LowestGoesOn = (s : Scenario) (n : ℕ) → IsScenario s → (ends (lowest s n) ≡ true) ⊎ (length (lowest s n) ≡ n)
 

@@ -14,7 +14,7 @@ abbrev pub IsStep : Plain → ℕ → CoreStep → Plain → Type 0
 IsStep old p (Did x) new = act old p ≡ Some (record { entry = x; next = new })
 IsStep old p (Nothing why) new = (caller old p ≡ None) × (why ≡ why_of (running old p)) × (new ≡ old)
 
--- The clock ticked; or it ended the run, and the state stays; or this is the least processor that has a directive, and nothing changed.
+-- The clock ticked; or it ended the run, and the state stays; or this is the lowest-numbered processor that has a directive, and nothing changed.
 abbrev pub IsTick : Plain → CoreTick → Plain → Type 0
 IsTick old Ticked new = act old 8 ≡ Some (record { entry = clock_entry Tick; next = new })
 IsTick old Ended new = (act old 8 ≡ Some (record { entry = clock_entry End; next = old })) × (new ≡ old)

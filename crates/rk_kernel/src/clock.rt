@@ -101,7 +101,8 @@ fn rung(core: &mut Core, who: Armer)
     }
 }
 
-/// The first timer of a cluster that is due now fires, and the state settles; says whether there was one.
+/// The first timer of a cluster that is due now fires, and the state settles; says whether there
+/// was one.
 fn fire_first(core: &mut Core, cluster: usize) -> bool
     requires cluster { cluster < length core.old.clusters }
     requires sound { IsSound (plain_of core.old) }

@@ -1,22 +1,22 @@
 //! Laws over the definitions: the contract of each function is a law, and calling it does nothing.
 //!
-//! Each speaks of the state after any legal history of a scenario, but for the last, which speaks of the
-//! history in which the least processor that has a directive always acts.
+//! Each speaks of the state after any legal history of a scenario, but for the last, which speaks
+//! of the planned history.
 
 ghost use Rattle.rk_kernel.specs.SchedulingLaws.{LinesHoldTheirOwn, ProcessorsHaveTheRunners, RunnersAreTheMostUrgent, NoneRunsTwice, NamesAndObjectsAgree, NothingIsLeftOfDeletedTasks, NoneActsAtWork, RefusalsChangeTheCallerAlone, LowestGoesOn};
 
-/// The line of each cluster holds exactly the eligible threads of that home, each once.
+/// The ready queue of each cluster holds exactly the eligible threads of that home, each once.
 pub fn lines_hold_their_own()
     ensures { LinesHoldTheirOwn }
 {}
 
-/// The processors of each cluster have exactly its runners, each on one processor.
+/// The processors of each cluster have exactly its scheduled threads, each on one processor.
 pub fn processors_have_the_runners()
     ensures { ProcessorsHaveTheRunners }
 {}
 
-/// The runners of each cluster are exactly the threads of its line with fewer more urgent ones than
-/// there are processors.
+/// The scheduled threads of each cluster are exactly the threads of its ready queue with fewer more
+/// urgent ones than there are processors.
 pub fn runners_are_the_most_urgent()
     ensures { RunnersAreTheMostUrgent }
 {}
@@ -49,8 +49,7 @@ pub fn refusals_change_the_caller_alone()
     ensures { RefusalsChangeTheCallerAlone }
 {}
 
-/// The history in which the least processor that has a directive always acts ends with End, or has as
-/// many entries as it was cut to.
+/// The planned history ends with End, or has as many entries as it was cut to.
 pub fn lowest_goes_on()
     ensures { LowestGoesOn }
 {}

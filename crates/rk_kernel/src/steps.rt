@@ -34,7 +34,7 @@ pub enum CoreTick {
     Ticked,
     /// The run ended at the horizon.
     Ended,
-    /// This processor, the least that has a directive, comes first.
+    /// This processor, the lowest-numbered that has a directive, comes first.
     NotYet(u8),
 }
 

@@ -1,4 +1,4 @@
-//! The line of a cluster: its threads in their order, each with its priority.
+//! The ready queue of a cluster: its threads in their order, each with its priority.
 #![tactic(auto)]
 
 mod line;

@@ -9,7 +9,7 @@ use rk_model::{Bounded, NoMemory, Prio, ThreadIx};
 use std::alloc::Global;
 use std::marker::Model;
 
-/// A place of a line: a thread, and the priority that it has there.
+/// A place of a ready queue: a thread, and the priority that it has there.
 #[derive(Clone, Copy, Debug, PartialEq, Eq)]
 pub struct Place {
     /// The thread.
@@ -31,8 +31,8 @@ impl Place {
     }
 }
 
-/// A line of at most 64 threads, each of which stands in it once. Contracts see the list of its
-/// places.
+/// A ready queue of at most 64 threads, each of which stands in it once. Contracts see the list of
+/// its places.
 #[derive(Debug, Drop)]
 pub struct Line {
     places: Bounded<Place, MOST_OBJECTS>,
@@ -51,7 +51,7 @@ impl Model for Line {
 }
 
 impl Line {
-    /// An empty line, with room for 64 threads.
+    /// An empty ready queue, with room for 64 threads.
     ///
     /// # Errors
     ///
@@ -64,7 +64,7 @@ impl Line {
         })
     }
 
-    /// Whether the thread stands in the line.
+    /// Whether the thread stands in the ready queue.
     pub fn contains(&self, thread: ThreadIx) -> bool
         ensures { result ≡ has (threads self.now) thread }
     {
@@ -106,8 +106,8 @@ impl Line {
     }
 
     /// The thread with exactly `n` more urgent ones: those whose priority is less, and those whose
-    /// priority is equal and which stand in front of it. `None` exactly where the line has at most
-    /// `n` threads.
+    /// priority is equal and which stand in front of it. `None` exactly where the ready queue has
+    /// at most `n` threads.
     pub fn nth_urgent(&self, n: u8) -> Option<ThreadIx>
         ensures value { result ≡ nth_urgent (prio_in self.now) n (threads self.now) }
         ensures some { IfSome result (λ t. n < length self.now) }

@@ -7,7 +7,7 @@ use Rattle.rk_model.specs.Scheduling.Running.{caller, is_quiet}
 use Rattle.rk_model.specs.Steps.{act}
 use Rattle.rk_model.specs.Histories.{Legal, after, ends, is_end, lowest}
 
--- The history in which always the least processor that has a directive acts is legal, however it is cut.
+-- The planned history is legal, however it is cut.
 abbrev pub LowestIsLegal : Type 0
 LowestIsLegal = (s : Scenario) (n : ℕ) → Legal s (lowest s n)
 

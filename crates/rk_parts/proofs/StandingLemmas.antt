@@ -62,7 +62,7 @@ standings_own k =
     ext_get_or no_standing (standings k) (map own_standing k.threads) (length-standings k 1 (length k.threads) ∙ sym (length-map k.threads own_standing))
     (λ i h. standings_say k (suc i) ∙ standing_own k (suc i) ∙ sym (standing_of k.threads (suc i)))
 
--- a thread that belongs in the line of a cluster has that home
+-- a thread that belongs in the ready queue of a cluster has that home
 pub belongs_home : (c : ℕ) (k : Plain) (t : ℕ) → belongs c (standing k t) ≡ true → (thread_at k t).home ≡ c
 unfolding standing
 belongs_home c k t h = by (is_eligible k t) h where

@@ -8,7 +8,7 @@ use Rattle.rk_model.specs.Scheduling.Settling.{belongs, shifts}
 use Rattle.rk_cluster.specs.declared.moves.Change.{Change}
 use Rattle.rk_cluster.specs.declared.moves.Change.TheVariants.{Leave, ToEnd, ToFront}
 
--- the change of a thread with this shift and this priority, which stood in the line before or didn't; none where it stays, since its place has its priority already, and where it neither stood there nor comes there
+-- the change of a thread with this shift and this priority, which stood in the ready queue before or didn't; none where it stays, since its place has its priority already, and where it neither stood there nor comes there
 abbrev pub change_by : Bool → Shift → ℕ → Option Change
 change_by stood asked.Stay prio = None
 change_by stood asked.Leave prio = if stood then Some Leave else None

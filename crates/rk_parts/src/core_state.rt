@@ -10,7 +10,7 @@ pub type Timers = Bounded<Armed, MOST_OBJECTS>;
 /// A cluster of the running kernel.
 #[derive(Debug, Drop)]
 pub struct ClusterPart {
-    /// The line of the cluster's eligible threads, and the thread that each processor has.
+    /// The ready queue of the cluster's eligible threads, and the thread that each processor has.
     pub lined: Cluster,
     /// The armed timers, in order of arming.
     pub timers: Timers,

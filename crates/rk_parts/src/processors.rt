@@ -79,7 +79,7 @@ pub fn why_not(core: &Core, cpu: usize) -> Why
     }
 }
 
-/// The least processor that has a directive.
+/// The lowest-numbered processor that has a directive.
 #[tactic(auto, using(crate::proofs::LeastProcessorLemmas::least_more))]
 pub fn least_of(core: &Core) -> Option<u8>
     requires { cpu_count (plain_of core.now) ≤ 8 }

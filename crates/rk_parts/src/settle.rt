@@ -1,4 +1,4 @@
-//! Settling: lines follow what the marked threads ask, and processors the lines.
+//! Rescheduling: ready queues follow what the marked threads ask, and processors the ready queues.
 
 ghost use Rattle.std.specs.Prelude.{◌≡◌, ◌≤◌, map, length};
 ghost use Rattle.std.specs.Option.{option_to_list};
@@ -15,7 +15,7 @@ use crate::core_state::{ClusterPart, Core};
 use crate::standing::own;
 use crate::threads::Threads;
 use rk_cluster::{Change, Moves};
-use rk_model::{Items, Shift, Prio, Standing, ThreadIx};
+use rk_model::{Items, Prio, Shift, Standing, ThreadIx};
 
 /// Whether this is the number of a cluster.
 fn is_number(cluster: u8, number: Option<u8>) -> bool
@@ -46,7 +46,7 @@ fn compare(cluster: u8, before: &Standing, now: &Standing, last: bool) -> Shift
     }
 }
 
-/// The change of a thread with this shift and this priority, which stood in the line before or
+/// The change of a thread with this shift and this priority, which stood in the ready queue before or
 /// didn't; none where it stays, and where it neither stood there nor comes there.
 fn change_for(stood: bool, asked: Shift, prio: Prio) -> Option<Change>
     ensures { result ≡ change_by stood asked prio }

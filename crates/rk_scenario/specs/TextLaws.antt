@@ -33,13 +33,13 @@ pub record AreLinesOf (lines : List (List ℕ)) (s : Scenario) : Type 0 where
 abbrev pub Begin : List (List ℕ) → Type 0
 Begin lines = (more : List (List ℕ)) × (s : Scenario) × AreLinesOf (lines ++ more) s
 
--- This is the number of the first line at which no text goes on: the lines before it begin a text, and with it they begin none. Where the lines are fewer, they are no whole text, and it is the number behind their last.
+-- This is the number of the first line that no valid scenario could have there: the lines before it begin a text, and with it they begin none. Where the lines are fewer, they are no whole text, and it is the number behind their last.
 pub record IsFirstStop (lines : List (List ℕ)) (line : ℕ) : Type 0 where
   pub before : Begin (take (line - 1) lines)
   pub stops : line ≤ length lines → Begin (take line lines) → ⊥
   pub ends : length lines < line → (line ≡ length lines + 1) × ((s : Scenario) → AreLinesOf lines s → ⊥)
 
--- A fault is that of the whole text where it is too large, and else it is at the first line at which no text goes on.
+-- A fault is that of the whole text where it is too large, and else it is at the first line that no valid scenario could have there.
 abbrev pub FaultsAtFirstStop : Type 0
 FaultsAtFirstStop = (bytes : List ℕ) (fault : Fault) → scenario_fault bytes ≡ Some fault
     → ((MOST_BYTES < length bytes) × (fault.line ≡ 0)) ⊎ ((length bytes ≤ MOST_BYTES) × IsFirstStop (lines_of bytes) fault.line)

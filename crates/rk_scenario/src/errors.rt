@@ -9,7 +9,7 @@ use std::alloc::AllocError;
 pub enum ScenarioError {
     /// The text is refused at a line, counted from 1; line 0 is the whole text.
     Refused { line: u32, why: ScenarioWhy },
-    /// Memory was wanted and not there.
+    /// Out of memory.
     Memory,
 }
 

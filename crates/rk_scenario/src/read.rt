@@ -87,8 +87,8 @@ fn read_text(alloc: Global, bytes: &[u8]) -> Result<Scenario, ScenarioError>
 ///
 /// # Errors
 ///
-/// `Refused` with the first line, counted from 1, at which no text goes on, and why; line 0 where
-/// the text has more than 1,048,576 bytes. `Memory` where memory was wanted.
+/// `Refused` with the first line, counted from 1, that no valid scenario could have there, and why;
+/// line 0 where the text has more than 1,048,576 bytes. `Memory` where memory ran out.
 #[tactic(auto, using(crate::proofs::TextLemmas::text_from_answer, crate::proofs::TextLemmas::only_from_answer, crate::proofs::TextLemmas::known_from_answer, crate::proofs::TextLemmas::refusal_from_answer))]
 pub fn read_scenario(alloc: Global, bytes: &[u8]) -> Result<Scenario, ScenarioError>
     ensures text { IfOk result (ScenarioText bytes.now) }

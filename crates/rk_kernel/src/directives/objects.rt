@@ -10,8 +10,9 @@ use crate::directives::outcomes::done;
 use rk_model::{Answer, Class, Id, Name, Status};
 use rk_parts::core_state::Core;
 
-/// Gives the first free index of a class to an object of this name, unless the name is 0, the operands
-/// are refused, or 64 objects of the class live; then it answers the status of the refusal.
+/// Gives the first free index of a class to an object of this name, unless the name is 0, the
+/// operands are refused, or 64 objects of the class live; then it answers the status of the
+/// refusal.
 pub(crate) fn create(
     core: &mut Core,
     class: Class,

@@ -83,7 +83,7 @@ fn bare(status: Status) -> Reply
     Reply { status, out: 0 }
 }
 
-/// The thread that goes to the end of its line after an answer, if one does.
+/// The thread that goes to the end of its ready queue after an answer, if one does.
 pub(crate) fn last_of(answer: &Answer) -> Option<ThreadIx>
     ensures { result ≡ last_of answer.now }
 {

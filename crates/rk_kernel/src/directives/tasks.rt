@@ -92,9 +92,9 @@ fn prio_refusal(prio: u32) -> Option<Status>
     }
 }
 
-/// `task.create` (`rtems_task_create`): makes a dormant task of the caller's home, and answers its id.
-/// It refuses with `INVALID_NAME` where the name is 0, with `INVALID_PRIORITY` where the priority
-/// isn't from 1 to 255, and with `TOO_MANY` where 64 tasks live.
+/// `task.create` (`rtems_task_create`): makes a dormant task of the caller's home, and answers its
+/// id. It refuses with `INVALID_NAME` where the name is 0, with `INVALID_PRIORITY` where the
+/// priority isn't from 1 to 255, and with `TOO_MANY` where 64 tasks live.
 pub(crate) fn task_create(core: &mut Core, caller: ThreadIx, name: Name, prio: u32) -> Answer
     ensures { Does (task_create (plain_of core.old) caller name.bits prio) result core.old core.new }
 {
@@ -173,8 +173,8 @@ fn with_suspended(core: &mut Core, task: ThreadIx, suspended: bool)
     core.threads.put(task, changed);
 }
 
-/// `task.suspend` (`rtems_task_suspend`): suspends a task, whose wait and timer go on. It refuses with
-/// `INVALID_ID` where the task is unknown, and with `ALREADY_SUSPENDED` where it is suspended.
+/// `task.suspend` (`rtems_task_suspend`): suspends a task, whose wait and timer go on. It refuses
+/// with `INVALID_ID` where the task is unknown, and with `ALREADY_SUSPENDED` where it is suspended.
 pub(crate) fn task_suspend(core: &mut Core, caller: ThreadIx, id: Target) -> Answer
     requires { AreNamed core.old.table core.old.threads.places }
     ensures { Does (task_suspend (plain_of core.old) caller id) result core.old core.new }
@@ -192,8 +192,8 @@ pub(crate) fn task_suspend(core: &mut Core, caller: ThreadIx, id: Target) -> Ans
     }
 }
 
-/// `task.resume` (`rtems_task_resume`): lets a suspended task go on. It refuses with `INVALID_ID` where
-/// the task is unknown, and with `INCORRECT_STATE` where it isn't suspended.
+/// `task.resume` (`rtems_task_resume`): lets a suspended task go on. It refuses with `INVALID_ID`
+/// where the task is unknown, and with `INCORRECT_STATE` where it isn't suspended.
 pub(crate) fn task_resume(core: &mut Core, caller: ThreadIx, id: Target) -> Answer
     requires { AreNamed core.old.table core.old.threads.places }
     ensures { Does (task_resume (plain_of core.old) caller id) result core.old core.new }
@@ -220,10 +220,10 @@ fn with_base(core: &mut Core, task: ThreadIx, base: Prio)
     core.threads.put(task, Thread { base, ..thread });
 }
 
-/// `task.set_priority` (`rtems_task_set_priority`): sets the base priority of a task, which then goes
-/// to the end of its line, and answers the priority that it had in its home; with 0 it only answers
-/// that. It refuses with `INVALID_ID` where the task is unknown, and with `INVALID_PRIORITY` where the
-/// priority is above 255.
+/// `task.set_priority` (`rtems_task_set_priority`): sets the base priority of a task, which then
+/// goes to the end of its ready queue, and answers the priority that it had in its home; with 0 it
+/// only answers that. It refuses with `INVALID_ID` where the task is unknown, and with
+/// `INVALID_PRIORITY` where the priority is above 255.
 pub(crate) fn task_set_priority(core: &mut Core, caller: ThreadIx, id: Target, prio: u32) -> Answer
     requires { AreNamed core.old.table core.old.threads.places }
     ensures { Does (task_set_priority (plain_of core.old) caller id prio) result core.old core.new }
@@ -289,7 +289,8 @@ pub(crate) fn task_exit(core: &mut Core, caller: ThreadIx) -> Answer
     Answer::Gone(Status::TaskExitted)
 }
 
-/// `task.wake_after` (`rtems_task_wake_after`): the caller sleeps for so many ticks, and yields with 0.
+/// `task.wake_after` (`rtems_task_wake_after`): the caller sleeps for so many ticks, and yields
+/// with 0.
 pub(crate) fn task_wake_after(core: &mut Core, caller: ThreadIx, ticks: u32) -> Answer
     requires { IsActing (plain_of core.old) caller }
     ensures { Does (task_wake_after (plain_of core.old) caller ticks) result core.old core.new }

@@ -18,7 +18,7 @@ use Rattle.rk_model.specs.Scheduling.Timers.{arm, cancel}
 
 -- What a directive comes to, before the caller goes on and the state settles.
 -- Refused: it has this status, and changes nothing; the caller goes on.
--- Done: it has this status, this out number and this next state; the caller goes on, and a thread that yielded or had its base priority set goes to the end of its line.
+-- Done: it has this status, this out number and this next state; the caller goes on, and a thread that yielded or had its base priority set goes to the end of its ready queue.
 -- Waiting: in this next state the caller waits.
 -- Gone: it has this status, and in this next state the caller has no next line.
 pub data Outcome : Type 0 where
@@ -64,7 +64,7 @@ out_of (told.Done status out last) = out
 out_of told.Waiting = 0
 out_of (told.Gone status) = 0
 
--- the thread that goes to the end of its line, if one does
+-- the thread that goes to the end of its ready queue, if one does
 abbrev pub last_of : Answer → Option ℕ
 last_of (told.Refused status) = None
 last_of (told.Done status out last) = last

@@ -92,7 +92,7 @@ task_resume k t id =
 abbrev pub with_base : Plain → ℕ → ℕ → Plain
 with_base k u prio = put_thread k u (record (thread_at k u) { base = prio })
 
--- task.set_priority (rtems_task_set_priority): INVALID_ID where the task is unknown; INVALID_PRIORITY where the priority is above 255; with 0 nothing changes; else the base priority is set, and the task goes to the end of its line if it is eligible. Out: its priority in its home before the call.
+-- task.set_priority (rtems_task_set_priority): INVALID_ID where the task is unknown; INVALID_PRIORITY where the priority is above 255; with 0 nothing changes; else the base priority is set, and the task goes to the end of its ready queue if it is eligible. Out: its priority in its home before the call.
 abbrev pub task_set_priority : Plain → ℕ → Target → ℕ → Outcome
 task_set_priority k t id prio =
     on_found (task_named k t id) (λ u.
@@ -113,6 +113,6 @@ task_delete k t id =
 abbrev pub task_exit : Plain → ℕ → Outcome
 task_exit k t = Gone TaskExitted (put_thread k t (record (thread_at k t) { life = Ended }))
 
--- task.wake_after (rtems_task_wake_after): with 0 ticks the caller goes to the end of its line, and else it waits for so many ticks.
+-- task.wake_after (rtems_task_wake_after): with 0 ticks the caller goes to the end of its ready queue, and else it waits for so many ticks.
 abbrev pub task_wake_after : Plain → ℕ → ℕ → Outcome
 task_wake_after k t ticks = if ticks == 0 then Done Successful 0 k (Some t) else Waiting (begin_limited k t ForTime ticks)

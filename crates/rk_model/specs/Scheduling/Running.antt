@@ -56,7 +56,7 @@ abbrev pub least_from : Plain → ℕ → ℕ → Option ℕ
 least_from k p zero = None
 least_from k p (suc n) = first_of (caller k p) p (least_from k (p + 1) n)
 
--- The least processor that has a directive.
+-- The lowest-numbered processor that has a directive.
 abbrev pub least : Plain → Option ℕ
 least k = least_from k 0 (cpu_count k)
 

@@ -363,6 +363,6 @@ abbrev pub fault_in : Verdict → Option Fault
 fault_in (Reads s) = None
 fault_in (Faults fault) = Some fault
 
--- The first line at which no text goes on, and what is wrong with it; none where the bytes are a text.
+-- The first line that no valid scenario could have there, and what is wrong with it; none where the bytes are a text.
 abbrev pub scenario_fault : List ℕ → Option Fault
 scenario_fault bytes = fault_in (verdict bytes)
