@@ -8,22 +8,13 @@ use Rattle.rk_model.specs.declared.ids.Named.{Named}
 use Rattle.rk_model.specs.Lists.{has, times}
 use Rattle.rk_model.specs.Names.{Names, no_names, indices, lives, least_named}
 use Rattle.rk_model.proofs.CountLemmas.{times-append, times-filter, times-has, has_none, length_by_times, length_range, once_in_range, times_range}
+use Rattle.rk_model.proofs.KeyLemmas.{position_at, without_key, position_within, times-without, removed}
 use Rattle.rk_ids.specs.LiveObjects.{IsSplit}
 use Rattle.rk_ids.proofs.LeastNameLemmas.{least_stands}
 
--- how many objects stand in front of that of an index, as the code finds it
-abbrev pub position : ℕ → List Named → ℕ
-position index objects = position_or_len (λ (object : Named). object.index == index) objects
-
-pub has_position : (index : ℕ) (objects : List Named) → has (indices objects) index ≡ ltb (position index objects) (length objects)
-has_position index [] = refl
-has_position index (object ∷ objects) = by (object.index == index) (has_position index objects) where
-  by : (b : Bool) → has (indices objects) index ≡ ltb (position index objects) (length objects) → (b || has (indices objects) index) ≡ ltb (cond (not b) (1 + position index objects) 0) (length (object ∷ objects))
-  by true h = grind (arith, nat_tests)
-  by false h = h ∙ grind (arith, nat_tests)
-
-pub position_within : (index : ℕ) (objects : List Named) → has (indices objects) index ≡ true → position index objects < length objects
-position_within index objects h = let test = sym (has_position index objects) ∙ h in grind (arith, nat_tests, test)
+-- what objects are known by
+abbrev pub key : Named → ℕ
+key object = object.index
 
 outside : (index n : ℕ) → times index (range_with_len 1 64) ≡ n → (nat_le 1 index && nat_le index 64) ≡ false → n ≡ 0
 outside index zero e is = refl
@@ -116,21 +107,6 @@ split_taken live free next index name split first u =
 
 -- Giving back:
 
--- the live objects without that of an index
-abbrev pub without : ℕ → List Named → List Named
-without index live = filter (λ (object : Named). not (object.index == index)) live
-
-indices_cons : (b : Bool) (object : Named) (live : List Named) (xs : List ℕ) → indices live ≡ xs → indices (cond b (object ∷ live) live) ≡ cond b (object.index ∷ xs) xs
-indices_cons true object live xs h = ap (λ (ys : List ℕ). object.index ∷ ys) h
-indices_cons false object live xs h = h
-
-indices-without : (index : ℕ) (live : List Named) → indices (without index live) ≡ filter (λ u. not (u == index)) (indices live)
-indices-without index [] = refl
-indices-without index (object ∷ live) = indices_cons (not (object.index == index)) object (without index live) _ (indices-without index live)
-
-times-without : (u index : ℕ) (live : List Named) → times u (indices (without index live)) ≡ cond (not (u == index)) (times u (indices live)) 0
-times-without u index live = ap (times u) (indices-without index live) ∙ times-filter (λ v. not (v == index)) u (indices live)
-
 once_by : (n m : ℕ) (b : Bool) → n + m ≡ cond b 1 0 → n ≤ 1
 once_by n m true h = omega (arith, h)
 once_by n m false h = omega (arith, h)
@@ -142,7 +118,7 @@ lives_once names index split = once_by _ (times index names.free) (nat_le 1 inde
 -- where an object lives, less than 64 indices are free
 pub room_to_free : (names : Names) (index : ℕ) → IsSplit names → lives names index ≡ true → length names.free < 64
 room_to_free names index split is =
-    let within = position_within index names.live is in
+    let within = position_within key index names.live is in
     let count = count_split names split in
     omega (arith, within, count)
 
@@ -151,41 +127,20 @@ given_by u index n m true true is split stands = let some = stands (grind (arith
 given_by u index n m true false is split stands = let some = stands (grind (arith, nat_tests, is)) in omega (arith, split, some)
 given_by u index n m false c is split stands = omega (arith, split)
 
-pub split_given : (live : List Named) (free : List ℕ) (index : ℕ) → IsSplit (record { live = live; free = free }) → has (indices live) index ≡ true → IsSplit (record { live = without index live; free = free ++ index ∷ [] })
+pub split_given : (live : List Named) (free : List ℕ) (index : ℕ) → IsSplit (record { live = live; free = free }) → has (indices live) index ≡ true → IsSplit (record { live = without_key key index live; free = free ++ index ∷ [] })
 split_given live free index split is u =
     let stands : u ≡ index → 0 < times u (indices live) = λ e. rw e (times-has index (indices live) is) in
     let all = given_by u index (times u (indices live)) (times u free) (u == index) (nat_le 1 u && nat_le u 64) refl (split u) stands in
-    let gone = times-without u index live in
+    let gone = times-without key u index live in
     let last : times u (free ++ index ∷ []) ≡ times u free + cond (u == index) 1 0 = times-append u free (index ∷ []) ∙ grind (arith, nat_tests) in
     rw (gone, last) all
 
-without_none : (index : ℕ) (live : List Named) → has (indices live) index ≡ false → without index live ≡ live
-without_none index [] h = refl
-without_none index (object ∷ live) h = by index object live (object.index == index) refl h (without_none index live) where
-  by : (index : ℕ) (object : Named) (live : List Named) (b : Bool) → (object.index == index) ≡ b → (b || has (indices live) index) ≡ false → (has (indices live) index ≡ false → without index live ≡ live) → cond (not b) (object ∷ without index live) (without index live) ≡ object ∷ live
-  by index object live true e h more = absurd (false≢true (sym h))
-  by index object live false e h more = ap (λ (rest : List Named). object ∷ rest) (more h)
-
-alone_by : (index : ℕ) (object : Named) (live : List Named) → times index (indices (object ∷ live)) ≤ 1 → (object.index == index) ≡ true → has (indices live) index ≡ false
-alone_by index object live once e = let none : times index (indices live) ≡ 0 = grind (arith, once, e) in has_none index (indices live) none
-
--- where an object lives once, it is taken out at its place
-pub removed : (index : ℕ) (live : List Named) → times index (indices live) ≤ 1 → remove live (position index live) ≡ without index live
-removed index [] once = refl
-removed index (object ∷ live) once = by index object live (object.index == index) refl once (λ few. removed index live few) where
-  by : (index : ℕ) (object : Named) (live : List Named) (b : Bool) → (object.index == index) ≡ b → times index (indices (object ∷ live)) ≤ 1 → (times index (indices live) ≤ 1 → remove live (position index live) ≡ without index live) → remove (object ∷ live) (cond (not b) (1 + position index live) 0) ≡ cond (not b) (object ∷ without index live) (without index live)
-  by index object live true e once more = sym (without_none index live (alone_by index object live once e))
-  by index object live false e once more =
-      let few : times index (indices live) ≤ 1 = omega (arith, once) in
-      let step : 1 + position index live ≡ suc (position index live) = omega arith in
-      rw step (ap (λ (rest : List Named). object ∷ rest) (more few))
-
 -- what a slice of the live objects tells of them
-pub taken_out : (index : ℕ) (slice live next : List Named) (free : List ℕ) (at : ℕ) → slice ≡ live → at ≡ position index slice → IsSplit (record { live = live; free = free }) → next ≡ remove live at → next ≡ without index live
-taken_out index slice live next free at e found split made = rw (made, found, e, removed index live (lives_once (record { live = live; free = free }) index split)) refl
+pub taken_out : (index : ℕ) (slice live next : List Named) (free : List ℕ) (at : ℕ) → slice ≡ live → at ≡ position_at key index slice → IsSplit (record { live = live; free = free }) → next ≡ remove live at → next ≡ without_key key index live
+taken_out index slice live next free at e found split made = rw (made, found, e, removed key index live (lives_once (record { live = live; free = free }) index split)) refl
 
-pub there : (index : ℕ) (slice live : List Named) (at : ℕ) → slice ≡ live → at ≡ position index slice → has (indices live) index ≡ true → at < length live
-there index slice live at e found is = rw (found, e) (position_within index live is)
+pub there : (index : ℕ) (slice live : List Named) (at : ℕ) → slice ≡ live → at ≡ position_at key index slice → has (indices live) index ≡ true → at < length live
+there index slice live at e found is = rw (found, e) (position_within key index live is)
 
 -- the least index that is found is from 1 to 64
 pub found_within : (name : ℕ) (slice live : List Named) (free : List ℕ) (index : ℕ) (found : Option ℕ) → slice ≡ live → IsSplit (record { live = live; free = free }) → found ≡ least_named name slice → found ≡ Some index → (1 ≤ index) × (index ≤ 64)

@@ -1,12 +1,12 @@
 ghost use Rattle.std.specs.Prelude.{◌≡◌, ◌≢◌, ◌↔◌, ◌≤◌, [], ◌==◌, length, IfOk, IfSome, IfNone, OnErr, Err, true};
-ghost use Rattle.std.specs.List.{position_or_len, range_with_len};
+ghost use Rattle.std.specs.List.{range_with_len};
 ghost use Rattle.rk_model.specs.Ids.{id_of, index_in};
 ghost use Rattle.rk_model.specs.Names.{no_names, given_back, least_named, lesser};
 ghost use Rattle.rk_ids.specs.declared.ids.IdError.TheVariants.{InvalidName, TooMany};
 ghost use Rattle.rk_ids.specs.LiveObjects.{objects, lives_at, live_index, optional_id, IsLeastNamed, NoneIsNamed, IsMade, IsSplit};
 
 use rk_model::limits::MOST_OBJECTS;
-use rk_model::{Bounded, Class, Id, Name, Named, NoMemory};
+use rk_model::{Bounded, Class, Id, Name, Named, NoMemory, position_of};
 use std::alloc::Global;
 use std::marker::Model;
 
@@ -118,7 +118,7 @@ impl Ids {
         ensures lives { result ≡ lives_at self.now index }
         ensures split { IsSplit self.now.names }
     {
-        place_of(self.live.as_slice(), index) < self.live.len()
+        position_of(self.live.as_slice(), index) < self.live.len()
     }
 
     /// Ends the life of an object. Its index goes last among the free ones. It takes no memory.
@@ -126,7 +126,7 @@ impl Ids {
         requires { lives_at self.old index ≡ true }
         ensures { self.new ≡ objects self.old.class (given_back self.old.names index) }
     {
-        let at = place_of(self.live.as_slice(), index);
+        let at = position_of(self.live.as_slice(), index);
         self.live.take(at);
         self.free.push(index);
     }
@@ -163,16 +163,4 @@ fn lesser(index: u16, other: Option<u16>) -> u16
         None => index,
         Some(other) => index.min(other),
     }
-}
-
-/// How many objects stand in front of that of an index; the number of objects where there is none.
-fn place_of(objects: &[Named], index: u16) -> usize
-    ensures { result ≡ position_or_len (λ object. object.index == index) objects.now }
-{
-    for (at, object) in objects.iter().enumerate() {
-        if object.index == index {
-            return at;
-        }
-    }
-    objects.len()
 }

@@ -6,22 +6,19 @@ use Rattle.std.proofs.lemmas.Bool.{false≢true}
 use Rattle.std.proofs.lemmas.Bool.Decides.{nat_tests}
 use Rattle.rk_model.specs.Lists.{has, times}
 use Rattle.rk_model.proofs.CountLemmas.{times-append, times-filter, times-has, has_times, times_none, has_none, length_within}
+use Rattle.rk_model.proofs.KeyLemmas.{position_at, position_within, times-without, alone_by, removed}
 use Rattle.rk_line.specs.declared.line.Place.{Place}
 use Rattle.rk_line.specs.Places.{threads, prio_in, without, with_prio, IsLine}
+
+-- what places are known by
+abbrev pub key : Place → ℕ
+key place = place.thread
 
 pub threads-append : (xs ys : List Place) → threads (xs ++ ys) ≡ threads xs ++ threads ys
 threads-append xs ys = map-append _ xs ys
 
 pub length-threads : (line : List Place) → length (threads line) ≡ length line
 length-threads line = length-map line _
-
-threads_cons : (b : Bool) (place : Place) (line : List Place) (xs : List ℕ) → threads line ≡ xs → threads (cond b (place ∷ line) line) ≡ cond b (place.thread ∷ xs) xs
-threads_cons true place line xs h = ap (λ (ys : List ℕ). place.thread ∷ ys) h
-threads_cons false place line xs h = h
-
-pub threads-without : (t : ℕ) (line : List Place) → threads (without t line) ≡ filter (λ u. not (u == t)) (threads line)
-threads-without t [] = refl
-threads-without t (place ∷ line) = threads_cons (not (place.thread == t)) place (without t line) _ (threads-without t line)
 
 same_thread : (b : Bool) (p : ℕ) (place : Place) → (let changed : Place = cond b (record place { prio = p }) place in changed.thread) ≡ place.thread
 same_thread true p place = refl
@@ -31,12 +28,9 @@ pub threads-with_prio : (t p : ℕ) (line : List Place) → threads (with_prio t
 threads-with_prio t p [] = refl
 threads-with_prio t p (place ∷ line) = rw (same_thread (place.thread == t) p place) (ap (λ (ys : List ℕ). place.thread ∷ ys) (threads-with_prio t p line))
 
-pub times-without : (u t : ℕ) (line : List Place) → times u (threads (without t line)) ≡ cond (not (u == t)) (times u (threads line)) 0
-times-without u t line = ap (times u) (threads-without t line) ∙ times-filter (λ v. not (v == t)) u (threads line)
-
 -- a thread stands no more often in the line without another
 pub times-without-le : (u t : ℕ) (line : List Place) → times u (threads (without t line)) ≤ times u (threads line)
-times-without-le u t line = by (not (u == t)) (times-without u t line) where
+times-without-le u t line = by (not (u == t)) (times-without key u t line) where
   by : (b : Bool) → times u (threads (without t line)) ≡ cond b (times u (threads line)) 0 → times u (threads (without t line)) ≤ times u (threads line)
   by true h = omega (arith, h)
   by false h = omega (arith, h)
@@ -158,14 +152,7 @@ line_room line t is none low high =
     let few : length (place ∷ line) ≤ 64 = line_few (place ∷ line) (line_first line place is none low high) in
     omega (arith, few)
 
--- Where a thread is not in the line, taking it out or changing it does nothing.
-pub without_none : (t : ℕ) (line : List Place) → has (threads line) t ≡ false → without t line ≡ line
-without_none t [] h = refl
-without_none t (place ∷ line) h = without_by t place line (place.thread == t) refl h (without_none t line) where
-  without_by : (t : ℕ) (place : Place) (line : List Place) (b : Bool) → (place.thread == t) ≡ b → (b || has (threads line) t) ≡ false → (has (threads line) t ≡ false → without t line ≡ line) → cond (not b) (place ∷ without t line) (without t line) ≡ place ∷ line
-  without_by t place line true e h more = absurd (false≢true (sym h))
-  without_by t place line false e h more = ap (λ (rest : List Place). place ∷ rest) (more h)
-
+-- Where a thread is not in the line, changing it does nothing.
 pub with_prio_none : (t p : ℕ) (line : List Place) → has (threads line) t ≡ false → with_prio t p line ≡ line
 with_prio_none t p [] h = refl
 with_prio_none t p (place ∷ line) h = with_prio_by t p place line (place.thread == t) refl h (with_prio_none t p line) where
@@ -173,44 +160,17 @@ with_prio_none t p (place ∷ line) h = with_prio_by t p place line (place.threa
   with_prio_by t p place line true e h more = absurd (false≢true (sym h))
   with_prio_by t p place line false e h more = ap (λ (rest : List Place). place ∷ rest) (more h)
 
--- how many places stand in front of a thread's, as the code finds it
-abbrev pub position : ℕ → List Place → ℕ
-position t line = position_or_len (λ (place : Place). place.thread == t) line
-
-pub has_position : (t : ℕ) (line : List Place) → has (threads line) t ≡ ltb (position t line) (length line)
-has_position t [] = refl
-has_position t (place ∷ line) = by (place.thread == t) (has_position t line) where
-  by : (b : Bool) → has (threads line) t ≡ ltb (position t line) (length line) → (b || has (threads line) t) ≡ ltb (cond (not b) (1 + position t line) 0) (length (place ∷ line))
-  by true h = grind (arith, nat_tests)
-  by false h = h ∙ grind (arith, nat_tests)
-
-pub position_within : (t : ℕ) (line : List Place) → has (threads line) t ≡ true → position t line < length line
-position_within t line h = let test = sym (has_position t line) ∙ h in grind (arith, nat_tests, test)
-
 -- where it stands once, it is taken out at that place, and changed there
-alone_by : (t : ℕ) (place : Place) (line : List Place) → times t (threads (place ∷ line)) ≤ 1 → (place.thread == t) ≡ true → has (threads line) t ≡ false
-alone_by t place line once e = let none : times t (threads line) ≡ 0 = grind (arith, once, e) in has_none t (threads line) none
-
-pub removed : (t : ℕ) (line : List Place) → times t (threads line) ≤ 1 → remove line (position t line) ≡ without t line
-removed t [] once = refl
-removed t (place ∷ line) once = removed_by t place line (place.thread == t) refl once (λ few. removed t line few) where
-  removed_by : (t : ℕ) (place : Place) (line : List Place) (b : Bool) → (place.thread == t) ≡ b → times t (threads (place ∷ line)) ≤ 1 → (times t (threads line) ≤ 1 → remove line (position t line) ≡ without t line) → remove (place ∷ line) (cond (not b) (1 + position t line) 0) ≡ cond (not b) (place ∷ without t line) (without t line)
-  removed_by t place line true e once more = sym (without_none t line (alone_by t place line once e))
-  removed_by t place line false e once more =
-      let few : times t (threads line) ≤ 1 = omega (arith, once) in
-      let step : 1 + position t line ≡ suc (position t line) = omega arith in
-      rw step (ap (λ (rest : List Place). place ∷ rest) (more few))
-
-pub changed : (t p : ℕ) (line : List Place) → times t (threads line) ≤ 1 → slice_set line (position t line) (record { thread = t; prio = p }) ≡ with_prio t p line
+pub changed : (t p : ℕ) (line : List Place) → times t (threads line) ≤ 1 → slice_set line (position_at key t line) (record { thread = t; prio = p }) ≡ with_prio t p line
 changed t p [] once = refl
 changed t p (place ∷ line) once = changed_by t p place line (place.thread == t) refl once (λ few. changed t p line few) where
-  changed_by : (t p : ℕ) (place : Place) (line : List Place) (b : Bool) → (place.thread == t) ≡ b → times t (threads (place ∷ line)) ≤ 1 → (times t (threads line) ≤ 1 → slice_set line (position t line) (record { thread = t; prio = p }) ≡ with_prio t p line) → slice_set (place ∷ line) (cond (not b) (1 + position t line) 0) (record { thread = t; prio = p }) ≡ cond b (record place { prio = p }) place ∷ with_prio t p line
+  changed_by : (t p : ℕ) (place : Place) (line : List Place) (b : Bool) → (place.thread == t) ≡ b → times t (threads (place ∷ line)) ≤ 1 → (times t (threads line) ≤ 1 → slice_set line (position_at key t line) (record { thread = t; prio = p }) ≡ with_prio t p line) → slice_set (place ∷ line) (cond (not b) (1 + position_at key t line) 0) (record { thread = t; prio = p }) ≡ cond b (record place { prio = p }) place ∷ with_prio t p line
   changed_by t p place line true e once more =
       let same : place.thread ≡ t = grind (arith, nat_tests, e) in
-      rw (with_prio_none t p line (alone_by t place line once e)) (ap (λ u. (let put : Place = record { thread = u; prio = p } in put) ∷ line) (sym same))
+      rw (with_prio_none t p line (alone_by key t place line once e)) (ap (λ u. (let put : Place = record { thread = u; prio = p } in put) ∷ line) (sym same))
   changed_by t p place line false e once more =
       let few : times t (threads line) ≤ 1 = omega (arith, once) in
-      let step : 1 + position t line ≡ suc (position t line) = omega arith in
+      let step : 1 + position_at key t line ≡ suc (position_at key t line) = omega arith in
       rw step (ap (λ (rest : List Place). place ∷ rest) (more few))
 
 -- a place of a thread that is in no place
@@ -218,11 +178,11 @@ pub free : (places line : List Place) (place : Place) (t p : ℕ) → places ≡
 free places line place t p same is none = rw (same, is) none
 
 -- what a slice of the places tells of the line: where a thread stands, the line without it, and with its other priority
-pub there : (t : ℕ) (slice places line : List Place) (at : ℕ) → slice ≡ places → places ≡ line → at ≡ position t slice → has (threads line) t ≡ true → at < length places
-there t slice places line at e f found is = rw (found, e, f) (position_within t line is)
+pub there : (t : ℕ) (slice places line : List Place) (at : ℕ) → slice ≡ places → places ≡ line → at ≡ position_at key t slice → has (threads line) t ≡ true → at < length places
+there t slice places line at e f found is = rw (found, e, f) (position_within key t line is)
 
-pub taken : (t : ℕ) (slice places line next : List Place) (at : ℕ) → slice ≡ places → places ≡ line → at ≡ position t slice → IsLine places → next ≡ remove places at → next ≡ without t line
-taken t slice places line next at e f found is made = rw (made, found, e, removed t places (is.once t), f) refl
+pub taken : (t : ℕ) (slice places line next : List Place) (at : ℕ) → slice ≡ places → places ≡ line → at ≡ position_at key t slice → IsLine places → next ≡ remove places at → next ≡ without t line
+taken t slice places line next at e f found is made = rw (made, found, e, removed key t places (is.once t), f) refl
 
-pub reset : (t p : ℕ) (slice places line next : List Place) (at : ℕ) → slice ≡ places → places ≡ line → at ≡ position t slice → IsLine places → next ≡ slice_set places at (record { thread = t; prio = p }) → next ≡ with_prio t p line
+pub reset : (t p : ℕ) (slice places line next : List Place) (at : ℕ) → slice ≡ places → places ≡ line → at ≡ position_at key t slice → IsLine places → next ≡ slice_set places at (record { thread = t; prio = p }) → next ≡ with_prio t p line
 reset t p slice places line next at e f found is made = rw (made, found, e, changed t p places (is.once t), f) refl

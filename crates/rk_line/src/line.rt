@@ -1,11 +1,11 @@
 ghost use Rattle.std.specs.Prelude.{◌≡◌, [], ◌∷◌, ◌++◌, ◌+◌, ◌<◌, ◌≤◌, ◌==◌, IfOk, IfSome, IfNone, true, false, nat_le, length, take, drop, count_by};
-ghost use Rattle.std.specs.List.{position_or_len, slice_index_or};
+ghost use Rattle.std.specs.List.{slice_index_or};
 ghost use Rattle.rk_model.specs.Lists.{has};
 ghost use Rattle.rk_model.specs.Scheduling.ReadyQueues.{nth_urgent};
 ghost use Rattle.rk_line.specs.Places.{threads, prio_in, without, with_prio, prio_at, more_urgent};
 
 use rk_model::limits::MOST_OBJECTS;
-use rk_model::{Bounded, NoMemory, Prio, ThreadIx};
+use rk_model::{Bounded, Keyed, NoMemory, Prio, ThreadIx, position_of};
 use std::alloc::Global;
 use std::marker::Model;
 
@@ -16,6 +16,18 @@ pub struct Place {
     pub thread: ThreadIx,
     /// Its priority.
     pub prio: Prio,
+}
+
+impl Keyed for Place {
+    type Key = ThreadIx;
+
+    ghost use Rattle.std.specs.Prelude.{◌==◌};
+
+    ghost is_of = { λ place thread. place.thread == thread };
+
+    fn has_key(&self, key: ThreadIx) -> bool {
+        self.thread == key
+    }
 }
 
 impl Place {
@@ -68,7 +80,7 @@ impl Line {
     pub fn contains(&self, thread: ThreadIx) -> bool
         ensures { result ≡ has (threads self.now) thread }
     {
-        place_of(self.places.as_slice(), thread) < self.places.len()
+        position_of(self.places.as_slice(), thread) < self.places.len()
     }
 
     /// Puts a thread behind all others. It takes no memory.
@@ -92,7 +104,7 @@ impl Line {
         requires { has (threads self.old) thread ≡ true }
         ensures { self.new ≡ without thread self.old }
     {
-        let at = place_of(self.places.as_slice(), thread);
+        let at = position_of(self.places.as_slice(), thread);
         self.places.take(at);
     }
 
@@ -101,7 +113,7 @@ impl Line {
         requires { has (threads self.old) thread ≡ true }
         ensures { self.new ≡ with_prio thread prio self.old }
     {
-        let at = place_of(self.places.as_slice(), thread);
+        let at = position_of(self.places.as_slice(), thread);
         self.places.set(at, Place { thread, prio });
     }
 
@@ -122,18 +134,6 @@ impl Line {
         }
         None
     }
-}
-
-/// How many places stand in front of a thread's; the number of places where it has none.
-fn place_of(places: &[Place], thread: ThreadIx) -> usize
-    ensures { result ≡ position_or_len (λ place. place.thread == thread) places.now }
-{
-    for (at, place) in places.iter().enumerate() {
-        if place.thread == thread {
-            return at;
-        }
-    }
-    places.len()
 }
 
 /// What is left of a number after one is taken away for each place whose priority is at most
