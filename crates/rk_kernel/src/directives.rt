@@ -53,7 +53,7 @@ pub(crate) fn action(core: &mut Core, caller: ThreadIx) -> Answer
             Some(Op::TaskSetPriority(id, prio, _)) => task_set_priority(core, caller, id, prio),
             Some(Op::TaskDelete(id)) => task_delete(core, caller, id),
             Some(Op::TaskWakeAfter(ticks)) => task_wake_after(core, caller, ticks),
-            _ => task_exit(core, caller),
+            Some(Op::Work(_) | Op::Goto(_)) | None => task_exit(core, caller),
         },
     }
 }
