@@ -18,7 +18,7 @@ use Rattle.rk_cluster.specs.Registers.{front_place, end_place, kept_place, front
 use Rattle.rk_cluster.specs.Clusters.{settled}
 use Rattle.rk_cluster.specs.Clusters as clusters
 use Rattle.rk_parts.specs.ClusterRegisters.{change_by, register}
-use Rattle.rk_parts.specs.Pinned.{key_of, IsKeyed}
+use Rattle.rk_parts.specs.Noted.{key_of, IsKeyed}
 use Rattle.rk_parts.specs.Settled.{settled_cluster}
 use Rattle.rk_parts.proofs.KeyedLineLemmas.{keyed, threads-keyed, prio_in-keyed}
 use Rattle.rk_model.proofs.AgreeingKeysLemmas.{most_urgent_agree}

@@ -1,9 +1,11 @@
-pub mod LeastProcessorLemmas
-pub mod PiecesLemmas
+pub mod ListedLemmas
+pub mod HeldLemmas
+pub mod LayoutLemmas
+pub mod PutLemmas
+pub mod ReplaceLemmas
 pub mod TimerListLemmas
 pub mod StandingLemmas
 pub mod MarkLemmas
-pub mod SettledClusterLemmas
 pub mod SettlingLemmas
 pub mod KeyedLineLemmas
 pub mod ClusterRegisterLemmas

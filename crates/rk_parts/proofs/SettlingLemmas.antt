@@ -13,7 +13,7 @@ use Rattle.rk_model.specs.Scheduling.ReadyQueues.{assigned, most_urgent, runners
 use Rattle.rk_model.specs.Scheduling.Settling.{belongs, shift_of, shifts, is_stay, is_to_end, is_to_front, making, shifted, shifted_from, shifted_by, assigned_from, settle_by, settle}
 use Rattle.rk_model.proofs.CountLemmas.{has-append}
 use Rattle.rk_parts.specs.Settled.{settled_cluster, settled_from}
-use Rattle.rk_parts.specs.Pinned.{key_of}
+use Rattle.rk_parts.specs.Noted.{key_of}
 use Rattle.rk_model.proofs.AgreeingKeysLemmas.{most_urgent_agree}
 use Rattle.rk_parts.proofs.StandingLemmas.{urgency_here}
 

@@ -1,7 +1,10 @@
 pub mod Threads
-pub mod Pieces
+pub mod Joined
+pub mod Lent
 pub mod ClusterRegisters
-pub mod Pinned
+pub mod Noted
+pub mod Seats
+pub mod Whole
 pub mod Settled
 pub mod NamesAgree
 pub mod Firing

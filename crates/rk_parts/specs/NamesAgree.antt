@@ -5,7 +5,7 @@ use Rattle.rk_model.specs.declared.state.Thread.{Thread}
 use Rattle.rk_model.specs.Lists.{nth, times}
 use Rattle.rk_model.specs.Names.{Names, Table, names_of, with_names, indices, taken}
 use Rattle.rk_model.specs.State.{no_thread}
-use Rattle.rk_model.specs.Directives.Tasks.{has_begun, begun_in}
+use Rattle.rk_model.specs.Directives.Objects.{has_begun, begun_in}
 use Rattle.rk_ids.specs.LiveObjects.{IsSplit}
 
 -- The first of these free indices was taken for an object of this name; or there is none, and nothing changed.

@@ -1,8 +1,9 @@
-//! The parts of the running kernel, and what is done on them.
+//! The parts of the running kernel, and what is done on those that are lent.
 #![tactic(auto)]
 
 pub mod arrival;
-pub mod core_state;
+pub mod lent;
+pub mod parts;
 pub mod processors;
 pub mod settle;
 pub mod standing;

@@ -1,49 +1,60 @@
-//! What the processors do.
+//! What the processors do whose parts are lent.
 
-ghost use Rattle.std.specs.Prelude.{◌≡◌, ◌<◌, ◌≤◌, None, length, IfSome, IsSome};
-ghost use Rattle.std.specs.List.{slice_index_or};
-ghost use Rattle.rk_model.specs.Scheduling.Running.{all_cpus, cpu_count, running, caller, least, why_of};
-ghost use Rattle.rk_parts.specs.Pieces.{plain_of, clusters_of};
+ghost use Rattle.std.specs.Prelude.{◌≡◌, ◌<◌, ◌≤◌, List, length, IfSome, IsSome};
+ghost use Rattle.rk_model.specs.declared.scenario.Scenario.{Scenario as ScenarioView};
+ghost use Rattle.rk_model.specs.Names.{Table};
+ghost use Rattle.rk_model.specs.Scheduling.Running.{running, caller, least, why_of};
+ghost use Rattle.rk_model.specs.Text.Scenarios.{cpus_in};
+ghost use Rattle.rk_parts.specs.declared.parts.GroupPart.{GroupPart};
+ghost use Rattle.rk_parts.specs.Joined.{joined};
+ghost use Rattle.rk_parts.specs.Lent.{layouts, AreLaid};
+ghost use Rattle.rk_parts.specs.Seats.{seat_in, is_seat};
 
-use crate::core_state::{ClusterPart, Core};
+use crate::lent::thread_of;
+use crate::parts::ClusterPart;
 use crate::standing::spins;
-use rk_model::{ThreadIx, View, Why};
+use rk_cluster::Cluster;
+use rk_model::{Scenario, ThreadIx, View, Why};
+
+/// Whether a cluster has a processor.
+fn has_seat(cluster: &Cluster, cpu: u8) -> bool
+    ensures { result ≡ is_seat cluster.now.first (length cluster.now.cpus) cpu }
+{
+    cluster.first() <= cpu && cpu < cluster.first() + cluster.cpus()
+}
 
 /// The thread that a processor has.
-pub fn cpu_of(clusters: &[ClusterPart], cpu: usize) -> Option<ThreadIx>
-    ensures { result ≡ slice_index_or (all_cpus (clusters_of clusters.now)) cpu None }
+fn cpu_of(clusters: &[ClusterPart], cpu: u8) -> Option<ThreadIx>
+    ensures { result ≡ seat_in clusters.now cpu }
 {
-    let mut rest = cpu;
-    for cluster in clusters {
-        let count = cluster.lined.cpus() as usize;
-        if rest < count {
-            return cluster.lined.assigned(cluster.lined.first() + rest as u8);
+    for part in clusters {
+        if has_seat(&part.lined, cpu) {
+            return part.lined.assigned(cpu);
         }
-        rest -= count;
     }
     None
 }
 
-/// How many processors there are.
-pub fn count_cpus(clusters: &[ClusterPart]) -> usize
-    requires { length (all_cpus (clusters_of clusters.now)) ≤ 8 }
-    ensures { result ≡ length (all_cpus (clusters_of clusters.now)) }
+/// How many processors the clusters of a scenario have.
+pub fn count_cpus(scenario: &Scenario) -> u8
+    requires { cpus_in scenario.now.clusters ≤ 8 }
+    ensures { result ≡ cpus_in scenario.now.clusters }
 {
     let mut count = 0;
-    for cluster in clusters {
-        count += cluster.lined.cpus() as usize;
+    for cpus in scenario.clusters.as_slice() {
+        count += *cpus;
     }
     count
 }
 
 /// What a processor does.
-pub fn view_on(core: &Core, cpu: usize) -> View
-    ensures { result ≡ running (plain_of core.now) cpu }
+pub fn view_on(clusters: &[ClusterPart], cpu: u8) -> View
+    ensures { (s : ScenarioView) (table : Table) (groups : List GroupPart) → AreLaid s.clusters (layouts clusters.now) → result ≡ running (joined s table clusters.now groups) cpu }
 {
-    match cpu_of(core.clusters.as_slice(), cpu) {
+    match cpu_of(clusters, cpu) {
         None => View::Idle,
         Some(thread) => {
-            if spins(core, thread) {
+            if spins(clusters, thread) {
                 View::Spins(thread)
             } else {
                 View::Runs(thread)
@@ -53,12 +64,12 @@ pub fn view_on(core: &Core, cpu: usize) -> View
 }
 
 /// The thread that has a directive on a processor.
-pub fn caller_on(core: &Core, cpu: usize) -> Option<ThreadIx>
-    ensures { result ≡ caller (plain_of core.now) cpu }
+pub fn caller_on(clusters: &[ClusterPart], cpu: u8) -> Option<ThreadIx>
+    ensures { (s : ScenarioView) (table : Table) (groups : List GroupPart) → AreLaid s.clusters (layouts clusters.now) → result ≡ caller (joined s table clusters.now groups) cpu }
 {
-    match view_on(core, cpu) {
+    match view_on(clusters, cpu) {
         View::Runs(thread) => {
-            if core.threads.get(thread).left == 0 {
+            if thread_of(clusters, thread).left == 0 {
                 Some(thread)
             } else {
                 None
@@ -69,10 +80,10 @@ pub fn caller_on(core: &Core, cpu: usize) -> Option<ThreadIx>
 }
 
 /// Why a processor has no directive.
-pub fn why_not(core: &Core, cpu: usize) -> Why
-    ensures { result ≡ why_of (running (plain_of core.now) cpu) }
+pub fn why_not(clusters: &[ClusterPart], cpu: u8) -> Why
+    ensures { (s : ScenarioView) (table : Table) (groups : List GroupPart) → AreLaid s.clusters (layouts clusters.now) → result ≡ why_of (running (joined s table clusters.now groups) cpu) }
 {
-    match view_on(core, cpu) {
+    match view_on(clusters, cpu) {
         View::Idle => Why::Idle,
         View::Spins(_) => Why::Spins,
         View::Runs(_) => Why::Computes,
@@ -80,15 +91,15 @@ pub fn why_not(core: &Core, cpu: usize) -> Why
 }
 
 /// The lowest-numbered processor that has a directive.
-#[tactic(auto, using(crate::proofs::LeastProcessorLemmas::least_more))]
-pub fn least_of(core: &Core) -> Option<u8>
-    requires { cpu_count (plain_of core.now) ≤ 8 }
-    ensures least { result ≡ least (plain_of core.now) }
-    ensures found { IfSome result (λ cpu. IsSome (caller (plain_of core.now) cpu) × (cpu < cpu_count (plain_of core.now)) × (cpu < 8)) }
+pub fn least_of(scenario: &Scenario, clusters: &[ClusterPart]) -> Option<u8>
+    requires laid { AreLaid scenario.now.clusters (layouts clusters.now) }
+    requires few { cpus_in scenario.now.clusters ≤ 8 }
+    ensures least { (table : Table) (groups : List GroupPart) → result ≡ least (joined scenario.now table clusters.now groups) }
+    ensures found { (table : Table) (groups : List GroupPart) → IfSome result (λ cpu. IsSome (caller (joined scenario.now table clusters.now groups) cpu) × (cpu < cpus_in scenario.now.clusters)) }
 {
-    for cpu in 0..count_cpus(core.clusters.as_slice()) {
-        if caller_on(core, cpu).is_some() {
-            return Some(cpu as u8);
+    for cpu in 0..count_cpus(scenario) {
+        if caller_on(clusters, cpu).is_some() {
+            return Some(cpu);
         }
     }
     None

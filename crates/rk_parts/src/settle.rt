@@ -1,21 +1,19 @@
 //! Rescheduling: ready queues follow what the marked threads ask, and processors the ready queues.
 
-ghost use Rattle.std.specs.Prelude.{◌≡◌, ◌≤◌, map, length};
+ghost use Rattle.std.specs.Prelude.{◌≡◌, map};
 ghost use Rattle.std.specs.Option.{option_to_list};
 ghost use Rattle.rk_model.specs.Lists.{has};
-ghost use Rattle.rk_model.specs.Scheduling.Settling.{is_cluster, shift_of, settle_by};
-ghost use Rattle.rk_cluster.specs.Clusters.{settled};
+ghost use Rattle.rk_model.specs.Scheduling.Settling.{is_cluster, shift_of};
 ghost use Rattle.rk_cluster.specs.Registers.{change_at};
 ghost use Rattle.rk_parts.specs.Threads.{own_standing};
-ghost use Rattle.rk_parts.specs.Pieces.{plain_of};
 ghost use Rattle.rk_parts.specs.ClusterRegisters.{change_by, register};
-ghost use Rattle.rk_parts.specs.Pinned.{linings, timers_in, relined, CanSettle, IsNoted};
+ghost use Rattle.rk_parts.specs.Noted.{bare, settled_part};
 
-use crate::core_state::{ClusterPart, Core};
+use crate::parts::ClusterPart;
 use crate::standing::own;
 use crate::threads::Threads;
 use rk_cluster::{Change, Moves};
-use rk_model::{Items, Prio, Shift, Standing, ThreadIx};
+use rk_model::{Prio, Shift, Standing, ThreadIx};
 
 /// Whether this is the number of a cluster.
 fn is_number(cluster: u8, number: Option<u8>) -> bool
@@ -103,35 +101,21 @@ fn fill_register(out: &mut Moves, threads: &Threads, last: &Option<ThreadIx>, cl
     }
 }
 
-/// Settles a cluster.
-fn settle_cluster(cluster: &mut ClusterPart, threads: &Threads, last: &Option<ThreadIx>, number: u8)
-    ensures lined { cluster.new.lined ≡ settled (register threads.now.stood (map own_standing threads.now.places) (option_to_list last.now) number) cluster.old.lined }
-    ensures timers { cluster.new.timers ≡ cluster.old.timers }
+/// Settles the part of a cluster after a change, where one thread may go last. It costs what the
+/// threads do that were put since the part settled.
+fn settle_part(part: &mut ClusterPart, last: &Option<ThreadIx>)
+    ensures { bare part.new ≡ settled_part (option_to_list last.now) part.old }
 {
-    fill_register(&mut cluster.moves, threads, last, number);
-    cluster.lined.settle(&cluster.moves);
+    fill_register(&mut part.moves, &part.threads, last, part.lined.number());
+    part.lined.settle(&part.moves);
+    part.threads.note();
 }
 
-/// Settles each cluster.
-fn settle_all(clusters: &mut Items<ClusterPart>, threads: &Threads, last: &Option<ThreadIx>)
-    requires { length clusters.old ≤ 4 }
-    ensures lined { linings clusters.new ≡ relined threads.now.stood (map own_standing threads.now.places) (option_to_list last.now) 0 (linings clusters.old) }
-    ensures timers { timers_in clusters.new ≡ timers_in clusters.old }
+/// Settles each of the lent parts.
+pub fn settle_parts(clusters: &mut [ClusterPart], last: &Option<ThreadIx>)
+    ensures { map bare clusters.new ≡ map (settled_part (option_to_list last.now)) clusters.old }
 {
     for at in 0..clusters.len() {
-        settle_cluster(clusters.at_mut(at), threads, last, at as u8);
+        settle_part(&mut clusters[at], last);
     }
-}
-
-/// Settles a state after a change, where one thread may go last. It costs what the threads do that
-/// were put since the state settled.
-pub fn settle_core(core: &mut Core, last: &Option<ThreadIx>)
-    requires { CanSettle core.old }
-    ensures settled { plain_of core.new ≡ settle_by core.old.threads.stood (plain_of core.old) (option_to_list last.now) }
-    ensures noted { IsNoted core.new }
-{
-    // Reading the marks tells how many places there are.
-    let _marked = core.threads.marked();
-    settle_all(&mut core.clusters, &core.threads, last);
-    core.threads.note();
 }

@@ -1,9 +1,13 @@
-ghost use Rattle.std.specs.Prelude.{◌≡◌};
+ghost use Rattle.std.specs.Prelude.{◌≡◌, List};
 ghost use Rattle.rk_model.specs.Scheduling.Priorities.{spins as spins_of, prio, home_prio, no_standing};
-ghost use Rattle.rk_parts.specs.Pieces.{plain_of};
+ghost use Rattle.rk_model.specs.declared.scenario.Scenario.{Scenario};
+ghost use Rattle.rk_model.specs.Names.{Table};
+ghost use Rattle.rk_parts.specs.declared.parts.GroupPart.{GroupPart};
+ghost use Rattle.rk_parts.specs.Joined.{joined};
 ghost use Rattle.rk_parts.specs.Threads.{is_ready, own_standing};
 
-use crate::core_state::Core;
+use crate::lent::thread_of;
+use crate::parts::ClusterPart;
 use rk_model::{Life, Prio, Standing, Thread, ThreadIx, Wait};
 
 /// How what is no thread stands.
@@ -38,10 +42,10 @@ pub fn own(thread: Thread) -> Standing
 }
 
 /// Whether the thread spins.
-pub fn spins(core: &Core, thread: ThreadIx) -> bool
-    ensures { result ≡ spins_of (plain_of core.now) thread }
+pub fn spins(clusters: &[ClusterPart], thread: ThreadIx) -> bool
+    ensures { (s : Scenario) (table : Table) (groups : List GroupPart) → result ≡ spins_of (joined s table clusters.now groups) thread }
 {
-    match core.threads.get(thread).wait {
+    match thread_of(clusters, thread).wait {
         None => false,
         Some(Wait::ForTime) => false,
     }
@@ -49,10 +53,10 @@ pub fn spins(core: &Core, thread: ThreadIx) -> bool
 
 /// The priority of the thread in a cluster, if it has one there.
 #[tactic(auto, unfolding(rk_model::specs::Scheduling::Priorities::prio))]
-fn prio_of(core: &Core, thread: ThreadIx, cluster: u8) -> Option<Prio>
-    ensures { result ≡ prio (plain_of core.now) thread cluster }
+fn prio_of(clusters: &[ClusterPart], thread: ThreadIx, cluster: u8) -> Option<Prio>
+    ensures { (s : Scenario) (table : Table) (groups : List GroupPart) → result ≡ prio (joined s table clusters.now groups) thread cluster }
 {
-    let found = core.threads.get(thread);
+    let found = thread_of(clusters, thread);
     if found.home == cluster {
         Some(found.base)
     } else {
@@ -62,11 +66,11 @@ fn prio_of(core: &Core, thread: ThreadIx, cluster: u8) -> Option<Prio>
 
 /// The priority of the thread in its home; the least urgent one where it has none.
 #[tactic(auto, unfolding(rk_model::specs::Scheduling::Priorities::home_prio))]
-pub fn prio_at_home(core: &Core, thread: ThreadIx) -> Prio
-    ensures { result ≡ home_prio (plain_of core.now) thread }
+pub fn prio_at_home(clusters: &[ClusterPart], thread: ThreadIx) -> Prio
+    ensures { (s : Scenario) (table : Table) (groups : List GroupPart) → result ≡ home_prio (joined s table clusters.now groups) thread }
 {
-    let home = core.threads.get(thread).home;
-    match prio_of(core, thread, home) {
+    let home = thread_of(clusters, thread).home;
+    match prio_of(clusters, thread, home) {
         Some(prio) => prio,
         None => Prio::least_urgent(),
     }

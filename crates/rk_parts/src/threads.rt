@@ -1,16 +1,18 @@
-//! The places of the threads, each of which is noted as it stood when the state settled last.
+//! The places of the threads in a part, each of which is noted as it stood when the state settled
+//! last.
 //!
 //! Whoever writes a thread marks it, so that settling looks at the marked threads alone.
 
 ghost use Rattle.std.specs.Prelude.{◌≡◌, ◌≤◌, ◌||◌, ◌==◌, ℕ, length, false, map, IfOk};
 ghost use Rattle.rk_model.specs.Lists.{has, nth, with_nth};
 ghost use Rattle.rk_model.specs.State.{no_thread};
+ghost use Rattle.rk_model.specs.Directives.Objects.{has_begun};
 ghost use Rattle.rk_model.specs.Scheduling.Priorities.{nth_standing};
 ghost use Rattle.rk_parts.specs.Threads.{no_threads, own_standing, AreApart, StandAsNoted};
 
 use crate::standing::{not_standing, own};
 use rk_model::limits::MOST_OBJECTS;
-use rk_model::{Bounded, Items, NoMemory, Standing, Thread, ThreadIx};
+use rk_model::{Bounded, Items, Life, NoMemory, Standing, Thread, ThreadIx};
 use std::alloc::Global;
 use std::marker::Model;
 
@@ -114,6 +116,16 @@ impl Threads {
         ensures { result ≡ nth no_thread self.now.places thread }
     {
         thread_in(self.places.as_slice(), thread)
+    }
+
+    /// Whether a thread lives here.
+    pub fn lives(&self, thread: ThreadIx) -> bool
+        ensures { result ≡ has_begun (nth no_thread self.now.places thread).life }
+    {
+        match self.places.get(thread.at() as usize - 1) {
+            Some(found) => !matches!(found.life, Life::Absent),
+            None => false,
+        }
     }
 
     /// How a thread stood when the state settled last.

@@ -1,30 +1,41 @@
-ghost use Rattle.std.specs.Prelude.{◌≡◌, ◌<◌, ◌≤◌, ◌+◌, ◌-◌, ◌++◌, ◌∷◌, [], ℕ, length};
-ghost use Rattle.rk_model.specs.State.{cluster_at};
-ghost use Rattle.rk_model.specs.Scheduling.Timers.{arm, cancel, due_at, without_due, take_due, is_same as same, without_timer};
-ghost use Rattle.rk_parts.specs.Pieces.{plain_of};
+//! The timers of the lent parts.
+
+ghost use Rattle.std.specs.Prelude.{◌≡◌, ◌<◌, ◌++◌, ◌∷◌, [], IfSome, IsSome, length, true};
+ghost use Rattle.std.specs.List.{slice_index_or};
+ghost use Rattle.rk_model.specs.declared.state.Armed.{Armed as ArmedView};
+ghost use Rattle.rk_model.specs.Directives.Objects.{has_begun};
+ghost use Rattle.rk_model.specs.Scheduling.Timers.{due_at, without_due, is_same as same, without_timer};
+ghost use Rattle.rk_parts.specs.Joined.{numbered, present_of, thread_lent, timers_lent};
+ghost use Rattle.rk_parts.specs.Lent.{number_in, PutsTimers, TakesDue};
 ghost use Rattle.rk_parts.specs.Firing.{head_of};
-ghost use Rattle.rk_parts.specs.Pinned.{stored};
 
-use crate::core_state::{Core, Timers};
-use rk_model::{Armed, Armer};
+use crate::lent::{number_of, place_of, present};
+use crate::parts::{ClusterPart, Timers};
+use rk_model::{Armed, Armer, ThreadIx};
 
-/// Arms a timer of a cluster, as its last.
-pub fn arm_timer(core: &mut Core, cluster: u8, who: Armer, due: u64)
-    requires cluster { cluster < length core.old.clusters }
-    requires room { length (cluster_at (plain_of core.old) cluster).timers < 64 }
-    ensures next { plain_of core.new ≡ arm (plain_of core.old) cluster (record { who = who; due = due }) }
-    ensures stored { stored core.new ≡ stored core.old }
+/// Arms a timer in the home of a thread that lives, as the last there.
+pub fn arm(clusters: &mut [ClusterPart], thread: ThreadIx, who: Armer, due: u64)
+    requires lives { has_begun (thread_lent clusters.old thread).life ≡ true }
+    requires room { length (timers_lent clusters.old thread) < 64 }
+    ensures { PutsTimers clusters.old thread (λ timers. timers ++ (record { who = who; due = due }) ∷ []) clusters.new }
 {
-    add(&mut core.clusters.at_mut(cluster as usize).timers, who, due);
+    // Reading the index tells its range.
+    let _index = thread.at();
+    if let Some(at) = place_of(clusters, thread) {
+        add(&mut clusters[at].timers, who, due);
+    }
 }
 
-/// Cancels the timer of one in a cluster, if it has one.
-pub fn cancel_timer(core: &mut Core, cluster: u8, who: Armer)
-    requires { cluster < length core.old.clusters }
-    ensures next { plain_of core.new ≡ cancel (plain_of core.old) cluster who }
-    ensures stored { stored core.new ≡ stored core.old }
+/// Cancels the timer of one in the home of a thread that lives, if it has one there.
+pub fn cancel(clusters: &mut [ClusterPart], thread: ThreadIx, who: Armer)
+    requires { has_begun (thread_lent clusters.old thread).life ≡ true }
+    ensures { PutsTimers clusters.old thread (without_timer who) clusters.new }
 {
-    remove(&mut core.clusters.at_mut(cluster as usize).timers, &who);
+    // Reading the index tells its range.
+    let _index = thread.at();
+    if let Some(at) = place_of(clusters, thread) {
+        remove(&mut clusters[at].timers, &who);
+    }
 }
 
 /// Whether two timers are of the same one.
@@ -73,13 +84,15 @@ fn take_first(timers: &mut Timers, tick: u64) -> Option<Armed>
     None
 }
 
-/// Takes out the first timer of a cluster that is due now.
-pub fn take_due_of(core: &mut Core, cluster: usize) -> Option<Armed>
-    requires { cluster < length core.old.clusters }
-    ensures first { result ≡ head_of (due_at core.old.present (cluster_at (plain_of core.old) cluster).timers) }
-    ensures taken { plain_of core.new ≡ take_due (plain_of core.old) cluster }
-    ensures stored { stored core.new ≡ stored core.old }
+/// Takes out the first timer of a lent cluster that is due now.
+pub fn take_due_of(clusters: &mut [ClusterPart], cluster: u8) -> Option<Armed>
+    requires { IsSome (number_in clusters.old cluster) }
+    ensures first { result ≡ head_of (due_at (present_of clusters.old) (numbered [] clusters.old cluster).timers) }
+    ensures taken { TakesDue clusters.old cluster clusters.new }
 {
-    let now = u64::from(core.present);
-    take_first(&mut core.clusters.at_mut(cluster).timers, now)
+    let now = u64::from(present(clusters));
+    match number_of(clusters, cluster) {
+        Some(at) => take_first(&mut clusters[at].timers, now),
+        None => None,
+    }
 }

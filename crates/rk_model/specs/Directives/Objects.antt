@@ -1,11 +1,16 @@
 -- Objects by their class, index and name, and what the directives that make and name them share.
-use Rattle.std.specs.Prelude.{ℕ, List, [], ◌∷◌, Bool, Option, Some, None, ◌==◌, if◌then◌else◌}
+use Rattle.std.specs.Prelude.{ℕ, List, [], ◌∷◌, Bool, true, false, Option, Some, None, ◌==◌, if◌then◌else◌}
 use Rattle.rk_model.specs.declared.ids.Class.{Class}
+use Rattle.rk_model.specs.declared.ids.Class.TheVariants.{Task}
+use Rattle.rk_model.specs.declared.state.Life.{Life}
+use Rattle.rk_model.specs.declared.state.Life.TheVariants.{Absent, Dormant, Started, Ended}
+use Rattle.rk_model.specs.declared.state.Thread.{Thread}
+use Rattle.rk_model.specs.Lists.{nth}
 use Rattle.rk_model.specs.declared.status.Status.{Status}
 use Rattle.rk_model.specs.declared.status.Status.TheVariants.{InvalidName, TooMany}
 use Rattle.rk_model.specs.Ids.{id_of, index_in}
-use Rattle.rk_model.specs.Names.{Names, names_of, with_names, lives, taken, given_back, least_named}
-use Rattle.rk_model.specs.State.{Plain}
+use Rattle.rk_model.specs.Names.{Names, names_of, with_names, taken, given_back, least_named}
+use Rattle.rk_model.specs.State.{Plain, no_thread}
 use Rattle.rk_model.specs.Directives.Outcomes.{Outcome, Refused, done}
 
 -- the names of the objects of a class
@@ -16,9 +21,21 @@ names_in k class = names_of class k.table
 abbrev pub put_names : Plain → Class → Names → Plain
 put_names k class names = record k { table = with_names class names k.table }
 
--- Whether an object of a class and an index lives: whether it has a name.
+-- created, and not deleted
+abbrev pub has_begun : Life → Bool
+has_begun Absent = false
+has_begun Dormant = true
+has_begun Started = true
+has_begun Ended = true
+
+-- Whether the object of a class and an index has begun: a task that was created and not deleted. No object of another class begins.
+abbrev pub begun_in : List Thread → Class → ℕ → Bool
+begun_in threads Task index = has_begun (nth no_thread threads index).life
+begun_in threads class index = false
+
+-- Whether an object of a class and an index lives: whether it has begun. Then, and only then, the index has a name, which is a law.
 abbrev pub is_live : Plain → Class → ℕ → Bool
-is_live k class index = lives (names_in k class) index
+is_live k class index = begun_in k.threads class index
 
 -- an index of a class, if there is one and its object lives
 abbrev pub live_one : Plain → Class → Option ℕ → Option ℕ

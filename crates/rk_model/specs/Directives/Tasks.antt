@@ -19,18 +19,6 @@ use Rattle.rk_model.specs.Directives.Objects.{object_of, create, ident, without_
 use Rattle.rk_model.specs.Scheduling.Priorities.{home_prio}
 use Rattle.rk_model.specs.Directives.Outcomes.{Outcome, Refused, Done, Waiting, Gone, done, on_found, arrived, var_at, begin_limited}
 
--- created, and not deleted
-abbrev pub has_begun : Life → Bool
-has_begun Absent = false
-has_begun Dormant = true
-has_begun Started = true
-has_begun Ended = true
-
--- Whether the object of a class and an index has begun: a task that was created and not deleted. No object of another class begins.
-abbrev pub begun_in : List Thread → Class → ℕ → Bool
-begun_in threads Task index = has_begun (nth no_thread threads index).life
-begun_in threads class index = false
-
 -- the task that a caller asks for by these bits: itself by 0, and else the live task whose id they are
 abbrev pub task_of : Plain → ℕ → ℕ → Option ℕ
 task_of k t bits = if bits == 0 then Some t else object_of k Task bits

@@ -1,0 +1,124 @@
+-- Where things stand among lent parts, how the parts lie, and what a change of them does.
+use Rattle.std.specs.Prelude.{ℕ, ◌+◌, ◌≡◌, ◌<◌, List, [], ◌∷◌, Bool, true, false, Option, Some, None, ◌==◌, map, length, take, if◌then◌else◌}
+use Rattle.std.specs.List.{slice_index_or}
+use Rattle.rk_model.specs.declared.limits.TheConstants.{MOST_OBJECTS}
+use Rattle.rk_model.specs.declared.scenario.Scenario.{Scenario}
+use Rattle.rk_model.specs.declared.settling.Standing.{Standing}
+use Rattle.rk_model.specs.declared.state.Armed.{Armed}
+use Rattle.rk_model.specs.declared.state.Life.TheVariants.{Dormant}
+use Rattle.rk_model.specs.declared.state.Thread.{Thread}
+use Rattle.rk_model.specs.Lists.{nth}
+use Rattle.rk_model.specs.Names.{Table}
+use Rattle.rk_model.specs.State.{Plain, no_thread, put_thread, cluster_at, put_cluster}
+use Rattle.rk_model.specs.Directives.Objects.{has_begun}
+use Rattle.rk_model.specs.Scheduling.Timers.{take_due}
+use Rattle.rk_model.specs.Text.Scenarios.{cpus_in}
+use Rattle.rk_cluster.specs.Clusters.{Cluster}
+use Rattle.rk_parts.specs.declared.parts.ClusterPart.{ClusterPart}
+use Rattle.rk_parts.specs.declared.parts.GroupPart.{GroupPart}
+use Rattle.rk_parts.specs.Joined.{joined, lives_in, thread_lent}
+
+abbrev pub one_more : Option ℕ → Option ℕ
+one_more None = None
+one_more (Some n) = Some (n + 1)
+
+-- the first of these parts in which a thread lives
+abbrev pub found_in : List ClusterPart → ℕ → Option ℕ
+found_in [] t = None
+found_in (part ∷ parts) t = if lives_in part t then Some 0 else one_more (found_in parts t)
+
+-- the first of these parts that is of a cluster
+abbrev pub number_in : List ClusterPart → ℕ → Option ℕ
+number_in [] c = None
+number_in (part ∷ parts) c = if part.lined.number == c then Some 0 else one_more (number_in parts c)
+
+-- what is left of a thread where only its home is seen; all of it where none lives
+abbrev pub outline : Thread → Thread
+outline thread = if has_begun thread.life then record no_thread { life = Dormant; home = thread.home } else thread
+
+-- How a part lies: its cluster and its processors, and who lives in it with which home.
+pub record Layout : Type 0 where
+  pub number : ℕ
+  pub first : ℕ
+  pub count : ℕ
+  pub places : List Thread
+
+abbrev pub layout : ClusterPart → Layout
+layout part = record { number = part.lined.number; first = part.lined.first; count = length part.lined.cpus; places = map outline part.threads.places }
+
+-- how these parts lie
+abbrev pub layouts : List ClusterPart → List Layout
+layouts parts = map layout parts
+
+-- What a part stores beside the threads and the timers: its cluster, how its threads stood when it settled last, and the present tick.
+pub record Stored : Type 0 where
+  pub lined : Cluster
+  pub stood : List Standing
+  pub present : ℕ
+
+abbrev pub stored_in : ClusterPart → Stored
+stored_in part = record { lined = part.lined; stood = part.threads.stood; present = part.present }
+
+-- what these parts store
+abbrev pub stored : List ClusterPart → List Stored
+stored parts = map stored_in parts
+
+-- The frame of parts is what a narrow directive keeps of them: how they lie, and what they store.
+pub record Frame : Type 0 where
+  pub layouts : List Layout
+  pub stored : List Stored
+
+abbrev pub frame : List ClusterPart → Frame
+frame parts = record { layouts = layouts parts; stored = stored parts }
+
+abbrev pub no_layout : Layout
+no_layout = record { number = 0; first = 0; count = 0; places = [] }
+
+-- how the part lies that stands at a place among these
+abbrev pub layout_at : List Layout → ℕ → Layout
+layout_at parts at = slice_index_or parts at no_layout
+
+-- whether a thread lives in the part that lies so
+abbrev pub lives_at : Layout → ℕ → Bool
+lives_at part t = has_begun (nth no_thread part.places t).life
+
+-- Parts that lie as parts of a state with clusters of so many processors each:
+pub record AreLaid (counts : List ℕ) (parts : List Layout) : Type 0 where
+  -- each is of a cluster of its own,
+  pub apart : (i j : ℕ) → i < length parts → j < length parts → (layout_at parts i).number ≡ (layout_at parts j).number → i ≡ j
+  -- a thread lives in one of them at most,
+  pub once : (i j t : ℕ) → lives_at (layout_at parts i) t ≡ true → lives_at (layout_at parts j) t ≡ true → i ≡ j
+  -- and there has that cluster for its home, which is one of the clusters of the state,
+  pub home : (i t : ℕ) → lives_at (layout_at parts i) t ≡ true → (nth no_thread (layout_at parts i).places t).home ≡ (layout_at parts i).number
+  pub known : (i t : ℕ) → lives_at (layout_at parts i) t ≡ true → (layout_at parts i).number < length counts
+  -- and where none lives there is no thread.
+  pub blank : (i t : ℕ) → lives_at (layout_at parts i) t ≡ false → nth no_thread (layout_at parts i).places t ≡ no_thread
+  -- A part has 64 places, and the processors of its cluster.
+  pub size : (i : ℕ) → i < length parts → length (layout_at parts i).places ≡ MOST_OBJECTS
+  pub count : (i : ℕ) → i < length parts → (layout_at parts i).count ≡ slice_index_or counts (layout_at parts i).number 0
+  pub first : (i : ℕ) → i < length parts → (layout_at parts i).number < length counts → (layout_at parts i).first ≡ cpus_in (take (layout_at parts i).number counts)
+
+-- The parts stand for the state with another thread at an index, and keep their frame.
+pub record Puts (old : List ClusterPart) (t : ℕ) (thread : Thread) (new : List ClusterPart) : Type 0 where
+  pub state : (s : Scenario) (table : Table) (groups : List GroupPart) → joined s table new groups ≡ put_thread (joined s table old groups) t thread
+  pub kept : frame new ≡ frame old
+
+-- Where these are parts of a state, they stand for that state with another thread at an index; they store the same, and are laid as before where its home is a cluster of the state.
+pub record Replaces (old : List ClusterPart) (t : ℕ) (thread : Thread) (new : List ClusterPart) : Type 0 where
+  pub state : (s : Scenario) (table : Table) (groups : List GroupPart) → AreLaid s.clusters (layouts old) → joined s table new groups ≡ put_thread (joined s table old groups) t thread
+  pub laid : (counts : List ℕ) → AreLaid counts (layouts old) → (has_begun thread.life ≡ true → thread.home < length counts) → AreLaid counts (layouts new)
+  pub kept : stored new ≡ stored old
+
+-- the state with other timers in a cluster
+abbrev pub with_timers : Plain → ℕ → (List Armed → List Armed) → Plain
+with_timers k c change = put_cluster k c (record (cluster_at k c) { timers = change (cluster_at k c).timers })
+
+-- Where these are parts of a state, they stand for that state with changed timers in the home of a thread; and they keep their frame.
+pub record PutsTimers (old : List ClusterPart) (t : ℕ) (change : List Armed → List Armed) (new : List ClusterPart) : Type 0 where
+  pub state : (s : Scenario) (table : Table) (groups : List GroupPart) → AreLaid s.clusters (layouts old) → joined s table new groups ≡ with_timers (joined s table old groups) (thread_lent old t).home change
+  pub kept : frame new ≡ frame old
+
+-- The parts stand for the state in which the first timer of a cluster that is due now is taken out; and they keep their frame.
+pub record TakesDue (old : List ClusterPart) (c : ℕ) (new : List ClusterPart) : Type 0 where
+  pub state : (s : Scenario) (table : Table) (groups : List GroupPart) → c < length s.clusters → joined s table new groups ≡ take_due (joined s table old groups) c
+  pub kept : frame new ≡ frame old

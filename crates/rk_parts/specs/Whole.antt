@@ -1,0 +1,29 @@
+-- All parts of a running kernel.
+use Rattle.std.specs.Prelude.{ℕ, ◌≡◌, ◌<◌, List, map, length, replicate}
+use Rattle.rk_parts.specs.declared.parts.ClusterPart.{ClusterPart}
+use Rattle.rk_parts.specs.declared.parts.GroupPart.{GroupPart}
+use Rattle.rk_parts.specs.declared.parts.AllParts.{AllParts}
+use Rattle.rk_parts.specs.Joined.{present_of}
+use Rattle.rk_parts.specs.Lent.{Stored, AreLaid, layouts, stored}
+use Rattle.rk_parts.specs.Noted.{part_at, AreNoted}
+
+-- the ticks of parts that store this
+abbrev pub ticks_of : List Stored → List ℕ
+ticks_of parts = map (λ (part : Stored). part.present) parts
+
+-- the ticks of these groups
+abbrev pub ticks_in : List GroupPart → List ℕ
+ticks_in groups = map (λ (group : GroupPart). group.present) groups
+
+-- All parts have the present tick.
+pub record AreOnTime (all : AllParts) : Type 0 where
+  pub clusters : ticks_of (stored all.clusters) ≡ replicate 4 (present_of all.clusters)
+  pub groups : ticks_in all.groups ≡ replicate 4 (present_of all.clusters)
+  pub table : all.table.present ≡ present_of all.clusters
+
+-- These are all parts of a running kernel: those of the clusters 0 to 3, laid as parts of its state and on time.
+pub record AreWhole (all : AllParts) : Type 0 where
+  pub four : length all.clusters ≡ 4
+  pub numbers : (c : ℕ) → c < 4 → (part_at all.clusters c).lined.number ≡ c
+  pub laid : AreLaid all.scenario.clusters (layouts all.clusters)
+  pub time : AreOnTime all
