@@ -3,10 +3,12 @@ pub mod HeldLemmas
 pub mod LayoutLemmas
 pub mod PutLemmas
 pub mod ReplaceLemmas
+pub mod LentTimerLemmas
 pub mod TimerListLemmas
 pub mod StandingLemmas
 pub mod MarkLemmas
 pub mod SettlingLemmas
 pub mod KeyedLineLemmas
+pub mod SettledPartLemmas
 pub mod ClusterRegisterLemmas
 pub mod RegisterFillLemmas

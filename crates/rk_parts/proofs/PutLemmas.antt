@@ -31,6 +31,15 @@ unfolding threads_of
 thread_held parts zero low high = absurd (omega (arith, low))
 thread_held parts (suc i) low high = let e : 1 + i ≡ suc i = omega arith in get_or-listed (held parts) 1 64 i no_thread (omega (arith, high)) ∙ ap (held parts) e
 
+-- there are 64 places for threads
+pub length_threads : (parts : List ClusterPart) → length (threads_of parts) ≡ 64
+unfolding threads_of
+length_threads parts = length-listed (held parts) 1 64
+
+pub length_clusters : (counts : List ℕ) (parts : List ClusterPart) → length (clusters_of counts parts) ≡ length counts
+unfolding clusters_of
+length_clusters counts parts = length-listed (numbered counts parts) 0 (length counts)
+
 -- where the threads that parts hold are those of others but for one, so are those of the state
 pub threads_put : (old new : List ClusterPart) (t : ℕ) (x : Thread) → 1 ≤ t → ((u : ℕ) → held new u ≡ cond (u == t) x (held old u)) → threads_of new ≡ with_nth (threads_of old) t x
 unfolding threads_of
@@ -150,15 +159,15 @@ abbrev keys_in : ClusterPart → Ranked
 keys_in part = record { stood = part.threads.stood; line = part.lined.line }
 
 -- to put a thread that stands as the one before it leaves all noted
-pub noted_put : (parts : List ClusterPart) (at t : ℕ) (x : Thread) → 1 ≤ t → t ≤ 64 → found_in parts t ≡ Some at → own_standing x ≡ own_standing (thread_lent parts t) → AreNoted parts → AreNoted (set parts at (with_thread (part_at parts at) t x))
-noted_put parts at t x low high found same noted =
+pub noted_put : (count : ℕ) (parts : List ClusterPart) (at t : ℕ) (x : Thread) → 1 ≤ t → t ≤ 64 → found_in parts t ≡ Some at → own_standing x ≡ own_standing (thread_lent parts t) → AreNoted count parts → AreNoted count (set parts at (with_thread (part_at parts at) t x))
+noted_put count parts at t x low high found same noted =
     let part = part_at parts at in
     let now = with_thread part t x in
     let within = found_within parts at t found in
     let stands : standings_in now ≡ standings_in part = standings_set part.threads.places t x (same ∙ ap own_standing (thread_held parts t low high ∙ held_found parts at t found)) in
     record {
       stood = λ i. part_kept (λ (p : ClusterPart). p.threads.stood) parts at i now within refl ∙ noted.stood i ∙ sym (part_kept standings_in parts at i now within stands);
-      keyed = λ i. subst (λ (k : Ranked). IsKeyed (key_of k.stood) k.line) (sym (part_kept keys_in parts at i now within refl)) (noted.keyed i);
+      keyed = λ i known. subst (λ (k : Ranked). IsKeyed (key_of k.stood) k.line) (sym (part_kept keys_in parts at i now within refl)) (noted.keyed i (rw (part_kept (λ (p : ClusterPart). p.lined.number) parts at i now within refl) at known));
     }
 
 -- what is found somewhere isn't found nowhere

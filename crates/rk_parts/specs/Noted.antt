@@ -39,10 +39,10 @@ part_at parts at = slice_index_or parts at no_part
 abbrev pub standings_in : ClusterPart → List Standing
 standings_in part = map own_standing part.threads.places
 
--- In each of these parts it is noted how its threads stand, and its ready queue has their priorities.
-pub record AreNoted (parts : List ClusterPart) : Type 0 where
+-- In each of these parts it is noted how its threads stand, and the ready queue of each of so many clusters has their priorities.
+pub record AreNoted (count : ℕ) (parts : List ClusterPart) : Type 0 where
   pub stood : (at : ℕ) → (part_at parts at).threads.stood ≡ standings_in (part_at parts at)
-  pub keyed : (at : ℕ) → IsKeyed (key_of (part_at parts at).threads.stood) (part_at parts at).lined.line
+  pub keyed : (at : ℕ) → (part_at parts at).lined.number < count → IsKeyed (key_of (part_at parts at).threads.stood) (part_at parts at).lined.line
 
 -- The ready queue of each cluster of a state has exactly the threads that belong there.
 abbrev pub LinesHold : Plain → Type 0

@@ -1,7 +1,7 @@
 //! The threads of the lent parts. A thread is looked for in all of them, and stands in that of its
 //! home.
 
-ghost use Rattle.std.specs.Prelude.{◌≡◌, ◌<◌, ◌≤◌, IfSome, IsSome, length, true, false};
+ghost use Rattle.std.specs.Prelude.{◌≡◌, ◌<◌, ◌≤◌, IfSome, IsSome, ℕ, length, true, false};
 ghost use Rattle.rk_model.specs.State.{no_thread};
 ghost use Rattle.rk_model.specs.Directives.Objects.{has_begun};
 ghost use Rattle.rk_parts.specs.Joined.{held, present_of, thread_lent};
@@ -91,7 +91,7 @@ pub fn renew(clusters: &mut [ClusterPart], index: ThreadIx, thread: Thread)
     requires home { thread.home ≡ (thread_lent clusters.old index).home }
     requires stands { own_standing thread ≡ own_standing (thread_lent clusters.old index) }
     ensures puts { Puts clusters.old index thread clusters.new }
-    ensures noted { AreNoted clusters.old → AreNoted clusters.new }
+    ensures noted { (count : ℕ) → AreNoted count clusters.old → AreNoted count clusters.new }
 {
     // Reading the index tells its range.
     let _index = index.at();

@@ -27,7 +27,7 @@ returns-in-Some c =
     let is = as_put parts c.in-Some.at t c.index-clusters-at.result c.renew.new.self x (found_within parts c.in-Some.at t found) c.renew.ensures in
     record {
       puts = subst (Puts parts t x) (sym is) (put_puts parts c.in-Some.at t x (omega arith) (omega arith) found c.requires.lives c.requires.life c.requires.home);
-      noted = λ noted. subst AreNoted (sym is) (noted_put parts c.in-Some.at t x (omega arith) (omega arith) found c.requires.stands noted);
+      noted = λ count noted. subst (AreNoted count) (sym is) (noted_put count parts c.in-Some.at t x (omega arith) (omega arith) found c.requires.stands noted);
     }
 
 pub returns-in_default : goal.returns-in_default

@@ -1,0 +1,25 @@
+use Rattle.std.proofs.Common.{◌≡◌, ◌++◌, ◌∷◌, [], List, Some, length, sym, ap, ◌∙◌, subst, arith}
+use Rattle.rk_model.specs.declared.state.Armed.{Armed}
+use Rattle.rk_model.specs.Scheduling.Timers.{due_at, without_timer, without_due}
+use Rattle.rk_parts.specs.Joined.{present_of, timers_lent}
+use Rattle.rk_parts.specs.Lent.{found_in, number_in, PutsTimers, TakesDue}
+use Rattle.rk_parts.specs.Firing.{head_of}
+use Rattle.rk_parts.specs.Noted.{part_at}
+use Rattle.rk_parts.specs.declared.parts.ClusterPart.{ClusterPart}
+use Rattle.rk_parts.proofs.HeldLemmas.{found_within}
+use Rattle.rk_parts.proofs.PutLemmas.{part_is, some_none, never_found}
+use Rattle.rk_parts.proofs.ReplaceLemmas.{number_within}
+use Rattle.rk_parts.proofs.LentTimerLemmas.{as_retimed, puts_timers, takes_due, timers_found, numbered_found}
+use Rattle.rk_parts.proofs.timers.cancel.Goals as goal
+
+pub returns-in-Some : goal.returns-in-Some
+returns-in-Some c =
+    let parts = c.args.clusters.now in
+    let t = c.args.thread in
+    let change = without_timer c.args.who in
+    let found : found_in parts t ≡ Some c.in-Some.at = sym c.place_of.ensures.place ∙ c.in-Some.is in
+    subst (PutsTimers parts t change) (sym (as_retimed parts c.in-Some.at c.index-clusters-at.result c.remove.new.timers change (found_within parts c.in-Some.at t found) c.remove.ensures))
+    (puts_timers parts c.in-Some.at t change (omega arith) (omega arith) found)
+
+pub returns-in_default : goal.returns-in_default
+returns-in_default c = absurd (never_found c.args.clusters.now c.args.thread (omega arith) (omega arith) (sym c.place_of.ensures.place ∙ c.in_default.is) c.requires)
