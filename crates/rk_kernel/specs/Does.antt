@@ -1,20 +1,35 @@
--- What a directive did, against what it comes to.
-use Rattle.std.specs.Prelude.{ℕ, ◌≡◌, Option, Result, Ok, Err}
+-- What the rows of the kernel do to the parts that are lent, against what they come to.
+use Rattle.std.specs.Prelude.{ℕ, ◌≡◌, ◌<◌, List, Option, Result, Ok, Err, length}
 use Rattle.rk_model.specs.declared.entry.Answer.{Answer}
 use Rattle.rk_model.specs.declared.ids.Class.{Class}
+use Rattle.rk_model.specs.declared.scenario.Scenario.{Scenario}
 use Rattle.rk_model.specs.declared.status.Status.{Status}
 use Rattle.rk_model.specs.Ids.{id_of}
+use Rattle.rk_model.specs.Names.{Table}
 use Rattle.rk_model.specs.State.{Plain}
 use Rattle.rk_model.specs.Directives.Objects.{create}
 use Rattle.rk_model.specs.Directives.Outcomes.{Outcome, Refused, done, answer_of, changed}
-use Rattle.rk_parts.specs.declared.core_state.Core.{Core}
-use Rattle.rk_parts.specs.Pieces.{plain_of}
-use Rattle.rk_parts.specs.Pinned.{stored}
+use Rattle.rk_parts.specs.declared.parts.ClusterPart.{ClusterPart}
+use Rattle.rk_parts.specs.declared.parts.GroupPart.{GroupPart}
+use Rattle.rk_parts.specs.Joined.{joined}
+use Rattle.rk_parts.specs.Lent.{AreLaid, layouts, stored, frame}
 
--- the answer is that of the outcome, the state is changed as it says, and what is stored beside it is as before
-pub record Does (o : Outcome) (answer : Answer) (before after : Core) : Type 0 where
-  pub told : answer ≡ answer_of o
-  pub state : plain_of after ≡ changed (plain_of before) o
+-- The parts stand for the state that this makes of the one that they stood for, whatever is not lent; and they keep their frame.
+pub record Becomes (s : Scenario) (change : Plain → Plain) (before after : List ClusterPart) : Type 0 where
+  pub state : (table : Table) (groups : List GroupPart) → AreLaid s.clusters (layouts before) → joined s table after groups ≡ change (joined s table before groups)
+  pub kept : frame after ≡ frame before
+
+-- A narrow row: the answer is that of its outcome in the state that the parts stand for, whatever is not lent; that state is changed as the outcome says; and the parts keep their frame.
+pub record Does (s : Scenario) (row : Plain → Outcome) (answer : Answer) (before after : List ClusterPart) : Type 0 where
+  pub told : (table : Table) (groups : List GroupPart) → answer ≡ answer_of (row (joined s table before groups))
+  pub state : (table : Table) (groups : List GroupPart) → AreLaid s.clusters (layouts before) → joined s table after groups ≡ changed (joined s table before groups) (row (joined s table before groups))
+  pub kept : frame after ≡ frame before
+
+-- A wide row, which is lent all cluster parts and the table: the answer is that of its outcome, the state is changed as it says, and the parts are still parts of that state and store the same.
+pub record DoesWide (s : Scenario) (row : Plain → Outcome) (answer : Answer) (before : List ClusterPart) (table : Table) (after : List ClusterPart) (table' : Table) : Type 0 where
+  pub told : (groups : List GroupPart) → answer ≡ answer_of (row (joined s table before groups))
+  pub state : (groups : List GroupPart) → AreLaid s.clusters (layouts before) → joined s table' after groups ≡ changed (joined s table before groups) (row (joined s table before groups))
+  pub laid : AreLaid s.clusters (layouts before) → AreLaid s.clusters (layouts after)
   pub kept : stored after ≡ stored before
 
 -- An object of a class got an index and its name, and whatever is put there then was created; or the create is refused with this status, whatever it puts, and nothing changed.

@@ -138,6 +138,7 @@ puts_timers parts at t change low high found = record {
       let home : (part_at parts at).lined.number ≡ (thread_lent parts t).home = sym (is.home at t lives) ∙ ap (λ (x : Thread). x.home) (sym (held_found parts at t found) ∙ sym (thread_held parts t low high)) in
       let known : (part_at parts at).lined.number < length s.clusters = is.known at t lives in
       rw home at (state_retimed s table groups parts at (part_at parts at).lined.number change (number_found s.clusters parts at (part_at parts at).lined.number is within refl) known));
+  threads = threads_else parts at (retimed (part_at parts at) (change (part_at parts at).timers)) refl;
   kept = retimed_kept parts at _;
 }
 

@@ -9,6 +9,7 @@ pub mod StandingLemmas
 pub mod MarkLemmas
 pub mod SettlingLemmas
 pub mod KeyedLineLemmas
+pub mod TickPartLemmas
 pub mod SettledPartLemmas
 pub mod ClusterRegisterLemmas
 pub mod RegisterFillLemmas

@@ -45,3 +45,11 @@ set-listed f g a n i x e = ext_get_or x (listed g a n) (set (listed f a n) i x) 
     by k less false t =
         let test : (a + k == a + i) ≡ false = grind (arith, nat_tests, t) in
         rw test (sym (get_or-set_other (listed f a n) i k x x (λ q. grind (arith, nat_tests, t, q)) ∙ get_or-listed f a n k x less))
+
+-- what stands at a place, whatever stands for none
+pub get_or-any : {X : Type 0} (xs : List X) (i : ℕ) (d e : X) → i < length xs → get_or xs i d ≡ get_or xs i e
+get_or-any [] i d e within = absurd (never i within) where
+  never : (i : ℕ) → i < 0 → ⊥
+  never i h = omega (arith, h)
+get_or-any (x ∷ xs) zero d e within = refl
+get_or-any (x ∷ xs) (suc i) d e within = get_or-any xs i d e (omega (arith, within))

@@ -151,11 +151,11 @@ standings_set xs zero x e = refl
 standings_set xs (suc i) x e = map-set_same own_standing xs i x no_thread e
 
 -- a ready queue and the standings by which it is ranked
-record Ranked : Type 0 where
+pub record Ranked : Type 0 where
   pub stood : List Standing
   pub line : List Place
 
-abbrev keys_in : ClusterPart → Ranked
+abbrev pub keys_in : ClusterPart → Ranked
 keys_in part = record { stood = part.threads.stood; line = part.lined.line }
 
 -- to put a thread that stands as the one before it leaves all noted

@@ -6,7 +6,7 @@ use Rattle.rk_model.specs.declared.scenario.Scenario.{Scenario}
 use Rattle.rk_model.specs.declared.state.Armed.{Armed}
 use Rattle.rk_model.specs.declared.state.Thread.{Thread}
 use Rattle.rk_model.specs.Lists.{nth}
-use Rattle.rk_model.specs.Names.{Table}
+use Rattle.rk_model.specs.Names.{Table, no_objects}
 use Rattle.rk_model.specs.State.{Plain, ClusterState, no_thread}
 use Rattle.rk_model.specs.Histories.{free_cluster}
 use Rattle.rk_model.specs.Directives.Objects.{has_begun}
@@ -62,6 +62,14 @@ joined s table parts groups = record { scenario = s; present = present_of parts;
 -- the state that all parts of a running kernel stand for
 abbrev pub plain_of : AllParts → Plain
 plain_of all = joined all.scenario all.table.names all.clusters all.groups
+
+-- a run of nothing
+abbrev pub no_scenario : Scenario
+no_scenario = record { clusters = []; horizon = 0; limit = 0; bodies = []; inits = [] }
+
+-- The state of these parts by themselves. What is told by the threads alone is the same in each state that the parts stand for.
+abbrev pub lent : List ClusterPart → Plain
+lent parts = joined no_scenario no_objects parts []
 
 -- the thread of an index, as these parts have it
 abbrev pub thread_lent : List ClusterPart → ℕ → Thread

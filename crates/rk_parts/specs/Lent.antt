@@ -16,7 +16,7 @@ use Rattle.rk_model.specs.Text.Scenarios.{cpus_in}
 use Rattle.rk_cluster.specs.Clusters.{Cluster}
 use Rattle.rk_parts.specs.declared.parts.ClusterPart.{ClusterPart}
 use Rattle.rk_parts.specs.declared.parts.GroupPart.{GroupPart}
-use Rattle.rk_parts.specs.Joined.{joined, lives_in, thread_lent}
+use Rattle.rk_parts.specs.Joined.{joined, lives_in, threads_of, thread_lent}
 
 abbrev pub one_more : Option ℕ → Option ℕ
 one_more None = None
@@ -116,6 +116,7 @@ with_timers k c change = put_cluster k c (record (cluster_at k c) { timers = cha
 -- Where these are parts of a state, they stand for that state with changed timers in the home of a thread; and they keep their frame.
 pub record PutsTimers (old : List ClusterPart) (t : ℕ) (change : List Armed → List Armed) (new : List ClusterPart) : Type 0 where
   pub state : (s : Scenario) (table : Table) (groups : List GroupPart) → AreLaid s.clusters (layouts old) → joined s table new groups ≡ with_timers (joined s table old groups) (thread_lent old t).home change
+  pub threads : threads_of new ≡ threads_of old
   pub kept : frame new ≡ frame old
 
 -- The parts stand for the state in which the first timer of a cluster that is due now is taken out; and they keep their frame.

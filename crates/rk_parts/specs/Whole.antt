@@ -15,6 +15,13 @@ ticks_of parts = map (λ (part : Stored). part.present) parts
 abbrev pub ticks_in : List GroupPart → List ℕ
 ticks_in groups = map (λ (group : GroupPart). group.present) groups
 
+-- a part with another tick
+abbrev pub at_tick : ℕ → ClusterPart → ClusterPart
+at_tick tick part = record part { present = tick }
+
+abbrev pub group_at_tick : ℕ → GroupPart → GroupPart
+group_at_tick tick group = record group { present = tick }
+
 -- All parts have the present tick.
 pub record AreOnTime (all : AllParts) : Type 0 where
   pub clusters : ticks_of (stored all.clusters) ≡ replicate 4 (present_of all.clusters)

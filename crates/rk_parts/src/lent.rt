@@ -4,23 +4,13 @@
 ghost use Rattle.std.specs.Prelude.{◌≡◌, ◌<◌, ◌≤◌, IfSome, IsSome, ℕ, length, true, false};
 ghost use Rattle.rk_model.specs.State.{no_thread};
 ghost use Rattle.rk_model.specs.Directives.Objects.{has_begun};
-ghost use Rattle.rk_parts.specs.Joined.{held, present_of, thread_lent};
+ghost use Rattle.rk_parts.specs.Joined.{held, thread_lent};
 ghost use Rattle.rk_parts.specs.Lent.{found_in, number_in, Puts, Replaces};
 ghost use Rattle.rk_parts.specs.Noted.{AreNoted};
 ghost use Rattle.rk_parts.specs.Threads.{own_standing};
 
 use crate::parts::ClusterPart;
 use rk_model::{Thread, ThreadIx};
-
-/// The present tick, as the lent parts have it.
-pub fn present(clusters: &[ClusterPart]) -> u32
-    ensures { result ≡ present_of clusters.now }
-{
-    match clusters {
-        [first, ..] => first.present,
-        [] => 0,
-    }
-}
 
 /// The first of the lent parts in which a thread lives.
 pub(crate) fn place_of(clusters: &[ClusterPart], thread: ThreadIx) -> Option<usize>

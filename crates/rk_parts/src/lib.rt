@@ -9,4 +9,5 @@ pub mod settle;
 pub mod standing;
 pub mod table;
 pub mod threads;
+pub mod ticks;
 pub mod timers;

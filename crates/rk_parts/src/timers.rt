@@ -9,8 +9,9 @@ ghost use Rattle.rk_parts.specs.Joined.{numbered, present_of, thread_lent, timer
 ghost use Rattle.rk_parts.specs.Lent.{number_in, PutsTimers, TakesDue};
 ghost use Rattle.rk_parts.specs.Firing.{head_of};
 
-use crate::lent::{number_of, place_of, present};
+use crate::lent::{number_of, place_of};
 use crate::parts::{ClusterPart, Timers};
+use crate::ticks::present;
 use rk_model::{Armed, Armer, ThreadIx};
 
 /// Arms a timer in the home of a thread that lives, as the last there.

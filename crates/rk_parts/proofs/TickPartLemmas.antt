@@ -1,0 +1,93 @@
+-- Parts with another tick.
+use Rattle.std.proofs.Common.{◌≡◌, ℕ, zero, suc, ◌+◌, ◌<◌, List, [], ◌∷◌, ◌++◌, ◌==◌, Option, Some, length, map, take, drop, replicate, arith, refl, sym, ap, ◌∙◌, get_or, set, subst, append_assoc}
+use Rattle.std.specs.Bool.{if◌then◌else◌}
+use Rattle.std.proofs.lemmas.List.{get_or-map, length-map, drop_more, take_more_set, drop-set-lt, map_push}
+use Rattle.rk_model.specs.declared.scenario.Scenario.{Scenario}
+use Rattle.rk_parts.specs.declared.parts.ClusterPart.{ClusterPart}
+use Rattle.rk_parts.specs.declared.parts.GroupPart.{GroupPart}
+use Rattle.rk_parts.specs.declared.parts.AllParts.{AllParts}
+use Rattle.rk_model.specs.State.{Plain}
+use Rattle.rk_parts.specs.Joined.{cluster_of, placed_in, lives_in, held, numbered, present_of, threads_of, clusters_of, plain_of}
+use Rattle.rk_parts.specs.Lent.{AreLaid, Layout, layout, layouts, stored}
+use Rattle.rk_parts.specs.Noted.{no_part, part_at, standings_in, key_of, IsKeyed, AreNoted}
+use Rattle.rk_parts.specs.Whole.{AreWhole, AreOnTime, ticks_of, ticks_in, at_tick, group_at_tick}
+use Rattle.rk_parts.proofs.ListedLemmas.{same_listed}
+use Rattle.rk_parts.proofs.PutLemmas.{Ranked, keys_in}
+
+-- one more of a list is changed
+pub one_mapped : {X : Type 0} (f : X → X) (xs : List X) (i : ℕ) (x next : X) (all : List X) → i < length xs → x ≡ get_or xs i x → next ≡ f x →
+    take i xs ++ map f (drop i xs) ≡ all → take (i + 1) (set xs i next) ++ map f (drop (i + 1) (set xs i next)) ≡ all
+one_mapped f xs i x next all within is done told =
+    let a = take_more_set xs i next within in
+    let b : drop (i + 1) (set xs i next) ≡ drop (i + 1) xs = drop-set-lt (i + 1) xs i next (omega arith) in
+    let d : map f (drop i xs) ≡ f x ∷ map f (drop (i + 1) xs) = ap (map f) (drop_more xs i x within) ∙ ap (λ y. f y ∷ map f (drop (i + 1) xs)) (sym is) in
+    rw (a, b, append_assoc, done) (rw d at told)
+
+held_tick : (n : ℕ) (parts : List ClusterPart) (t : ℕ) → held (map (at_tick n) parts) t ≡ held parts t
+held_tick n [] t = refl
+held_tick n (p ∷ ps) t = ap (λ x. if lives_in p t then placed_in p t else x) (held_tick n ps t)
+
+numbered_tick : (n : ℕ) (counts : List ℕ) (parts : List ClusterPart) (c : ℕ) → numbered counts (map (at_tick n) parts) c ≡ numbered counts parts c
+numbered_tick n counts [] c = refl
+numbered_tick n counts (p ∷ ps) c = ap (λ rest. if p.lined.number == c then cluster_of p else rest) (numbered_tick n counts ps c)
+
+threads_tick : (n : ℕ) (parts : List ClusterPart) → threads_of (map (at_tick n) parts) ≡ threads_of parts
+unfolding threads_of
+threads_tick n parts = same_listed (held (map (at_tick n) parts)) (held parts) 1 64 (held_tick n parts)
+
+clusters_tick : (n : ℕ) (counts : List ℕ) (parts : List ClusterPart) → clusters_of counts (map (at_tick n) parts) ≡ clusters_of counts parts
+unfolding clusters_of
+clusters_tick n counts parts = same_listed (numbered counts (map (at_tick n) parts)) (numbered counts parts) 0 (length counts) (numbered_tick n counts parts)
+
+present_tick : (n m : ℕ) (parts : List ClusterPart) → length parts ≡ suc m → present_of (map (at_tick n) parts) ≡ n
+present_tick n m [] size = let no : ⊥ = cc in absurd no
+present_tick n m (p ∷ ps) size = refl
+
+layouts_tick : (n : ℕ) (parts : List ClusterPart) → layouts (map (at_tick n) parts) ≡ layouts parts
+layouts_tick n [] = refl
+layouts_tick n (p ∷ ps) = ap (λ (ls : List Layout). layout p ∷ ls) (layouts_tick n ps)
+
+ticks_tick : (n : ℕ) (parts : List ClusterPart) → ticks_of (stored (map (at_tick n) parts)) ≡ replicate (length parts) n
+ticks_tick n [] = refl
+ticks_tick n (p ∷ ps) = ap (λ ts. n ∷ ts) (ticks_tick n ps)
+
+groups_tick : (n : ℕ) (groups : List GroupPart) → ticks_in (map (group_at_tick n) groups) ≡ replicate (length groups) n
+groups_tick n [] = refl
+groups_tick n (g ∷ gs) = ap (λ ts. n ∷ ts) (groups_tick n gs)
+
+tick_at : {X : Type 0} (f : ClusterPart → X) (n : ℕ) (parts : List ClusterPart) (i : ℕ) → ((p : ClusterPart) → f (at_tick n p) ≡ f p) → f (part_at (map (at_tick n) parts) i) ≡ f (part_at parts i)
+tick_at f n [] i same = refl
+tick_at f n (p ∷ ps) zero same = same p
+tick_at f n (p ∷ ps) (suc i) same = tick_at f n ps i same
+
+-- all parts with another tick stand for the state with that tick,
+pub state_tick : (n : ℕ) (old new : AllParts) → AreWhole old → new.clusters ≡ map (at_tick n) old.clusters → new.scenario ≡ old.scenario → new.table.names ≡ old.table.names → plain_of new ≡ (let k : Plain = record (plain_of old) { present = n } in k)
+state_tick n old new whole clusters scenario names =
+    let tick : present_of new.clusters ≡ n = ap present_of clusters ∙ present_tick n 3 old.clusters whole.four in
+    let cs : clusters_of new.scenario.clusters new.clusters ≡ clusters_of old.scenario.clusters old.clusters =
+    ap (λ (s : Scenario). clusters_of s.clusters new.clusters) scenario ∙ ap (λ (ps : List ClusterPart). clusters_of old.scenario.clusters ps) clusters ∙ clusters_tick n old.scenario.clusters old.clusters in
+    let ts : threads_of new.clusters ≡ threads_of old.clusters = ap (λ (ps : List ClusterPart). threads_of ps) clusters ∙ threads_tick n old.clusters in
+    λ i. record { scenario = scenario i; present = tick i; clusters = cs i; threads = ts i; table = names i }
+
+-- are whole
+pub whole_tick : (n : ℕ) (old new : AllParts) → AreWhole old → new.clusters ≡ map (at_tick n) old.clusters → new.groups ≡ map (group_at_tick n) old.groups → new.table.present ≡ n → new.scenario ≡ old.scenario → AreWhole new
+whole_tick n old new whole clusters groups table scenario =
+    let tick : present_of new.clusters ≡ n = ap present_of clusters ∙ present_tick n 3 old.clusters whole.four in
+    let four : length old.groups ≡ 4 = sym (length-map old.groups (λ (group : GroupPart). group.present)) ∙ ap (λ (ts : List ℕ). length ts) whole.time.groups in
+    record {
+      four = ap (λ (ps : List ClusterPart). length ps) clusters ∙ length-map old.clusters (at_tick n) ∙ whole.four;
+      numbers = λ c h. ap (λ (ps : List ClusterPart). (part_at ps c).lined.number) clusters ∙ tick_at (λ (p : ClusterPart). p.lined.number) n old.clusters c (λ p. refl) ∙ whole.numbers c h;
+      laid = subst (λ (s : Scenario). AreLaid s.clusters (layouts new.clusters)) (sym scenario) (subst (AreLaid old.scenario.clusters) (sym (ap (λ (ps : List ClusterPart). layouts ps) clusters ∙ layouts_tick n old.clusters)) whole.laid);
+      time = record {
+        clusters = ap (λ (ps : List ClusterPart). ticks_of (stored ps)) clusters ∙ ticks_tick n old.clusters ∙ ap (λ m. replicate m n) whole.four ∙ ap (replicate 4) (sym tick);
+        groups = ap (λ (gs : List GroupPart). ticks_in gs) groups ∙ groups_tick n old.groups ∙ ap (λ m. replicate m n) four ∙ ap (replicate 4) (sym tick);
+        table = table ∙ sym tick;
+      };
+    }
+
+-- and are noted as before.
+pub noted_tick : (n count : ℕ) (parts : List ClusterPart) → AreNoted count parts → AreNoted count (map (at_tick n) parts)
+noted_tick n count parts noted = record {
+  stood = λ at. tick_at (λ (p : ClusterPart). p.threads.stood) n parts at (λ p. refl) ∙ noted.stood at ∙ sym (tick_at standings_in n parts at (λ p. refl));
+  keyed = λ at known. subst (λ (k : Ranked). IsKeyed (key_of k.stood) k.line) (sym (tick_at keys_in n parts at (λ p. refl))) (noted.keyed at (rw (tick_at (λ (p : ClusterPart). p.lined.number) n parts at (λ p. refl)) at known));
+}
