@@ -1,6 +1,8 @@
 pub mod ListedLemmas
 pub mod HeldLemmas
 pub mod LayoutLemmas
+pub mod LentSeatLemmas
+pub mod LeastProcessorLemmas
 pub mod PutLemmas
 pub mod ReplaceLemmas
 pub mod LentTimerLemmas

@@ -1,0 +1,10 @@
+use Rattle.std.proofs.Common.{◌≡◌, ◌-◌, List}
+use Rattle.rk_model.specs.Names.{Table}
+use Rattle.rk_model.specs.Scheduling.Running.{cpu_count, least, least_from}
+use Rattle.rk_parts.specs.declared.parts.GroupPart.{GroupPart}
+use Rattle.rk_parts.specs.Joined.{joined}
+use Rattle.rk_parts.proofs.processors.least_of.Given as goal
+
+abbrev pub invariant-loop-cpu : goal.invariant-loop-cpu
+invariant-loop-cpu l = (table : Table) (groups : List GroupPart) →
+    least_from (joined l.scenario table l.clusters groups) l.cpu (cpu_count (joined l.scenario table l.clusters groups) - l.cpu) ≡ least (joined l.scenario table l.clusters groups)
