@@ -16,7 +16,7 @@ use Rattle.rk_model.specs.Directives.Outcomes.{stored_vars, finished, go_on, end
 use Rattle.rk_model.specs.declared.state.Life.{Life}
 use Rattle.rk_model.specs.declared.state.Life.TheVariants.{Absent, Dormant, Started, Ended}
 use Rattle.rk_model.specs.Scheduling.Priorities.{is_started}
-use Rattle.rk_model.specs.Directives.Tasks.{has_begun}
+use Rattle.rk_model.specs.Directives.Objects.{has_begun}
 use Rattle.rk_parts.specs.NamesAgree.{AreNamed}
 use Rattle.rk_model.proofs.BooleanLemmas.{and_front, and_back, equal_test}
 use Rattle.rk_kernel.specs.Sound.{IsSound, IsInBounds, IsGentle, waits_in, is_waiting, is_in_call}

@@ -12,7 +12,7 @@ use Rattle.rk_model.specs.declared.ids.Class.{Class}
 use Rattle.rk_model.specs.declared.ids.Class.TheVariants.{Task, Semaphore, Partition, Period, Barrier}
 use Rattle.rk_model.specs.Names.{Names, Table, names_of, with_names, no_objects, indices, taken}
 use Rattle.rk_model.specs.State.{no_thread}
-use Rattle.rk_model.specs.Directives.Tasks.{has_begun, begun_in}
+use Rattle.rk_model.specs.Directives.Objects.{has_begun, begun_in}
 use Rattle.rk_model.specs.Histories.{begun, places, named_from, begun_names}
 use Rattle.rk_ids.specs.LiveObjects.{IsSplit}
 use Rattle.rk_ids.proofs.FreeIndexLemmas.{split_none}

@@ -11,7 +11,7 @@ use Rattle.rk_model.specs.declared.state.Thread.{Thread}
 use Rattle.rk_model.specs.Lists.{nth, with_nth, times}
 use Rattle.rk_model.specs.Names.{Names, Table, names_of, with_names, indices, lives, taken, given_back}
 use Rattle.rk_model.specs.State.{no_thread}
-use Rattle.rk_model.specs.Directives.Tasks.{has_begun, begun_in}
+use Rattle.rk_model.specs.Directives.Objects.{has_begun, begun_in}
 use Rattle.rk_model.proofs.CountLemmas.{same_either_way, times-append, has_times, has_none}
 use Rattle.rk_ids.specs.LiveObjects.{IsSplit}
 use Rattle.rk_ids.proofs.FreeIndexLemmas.{live_within, split_taken, split_given}

@@ -3,38 +3,28 @@ use Rattle.std.proofs.Common.{◌≡◌, ℕ, ◌≤◌, ◌&&◌, Bool, true, f
 use Rattle.std.proofs.lemmas.Bool.Decides.{nat_tests}
 use Rattle.rk_model.specs.declared.ids.Class.{Class}
 use Rattle.rk_model.specs.declared.ids.Class.TheVariants.{Task}
-use Rattle.rk_model.specs.Lists.{has, times}
-use Rattle.rk_model.specs.Names.{indices}
+use Rattle.rk_model.specs.Names.{lives}
 use Rattle.rk_model.specs.State.{Plain, no_thread, thread_at}
-use Rattle.rk_model.specs.Directives.Objects.{names_in, is_live}
-use Rattle.rk_model.specs.Directives.Tasks.{begun_in}
-use Rattle.rk_model.proofs.CountLemmas.{has_times, has_none}
-use Rattle.rk_parts.specs.NamesAgree.{AreNamed}
+use Rattle.rk_model.specs.Directives.Objects.{names_in}
 use Rattle.rk_kernel.specs.SchedulingLaws.{HasNames, NamesAndObjectsAgree, NothingIsLeftOfDeletedTasks}
 use Rattle.rk_kernel.specs.Sound.{IsSound}
+use Rattle.rk_kernel.proofs.NamesAgreeLemmas.{object_lives}
 use Rattle.rk_kernel.proofs.HistoryLemmas.{sound_after}
 
 once_within : (n index : ℕ) → n ≡ cond (nat_le 1 index && nat_le index 64) 1 0 → 1 ≤ index → index ≤ 64 → n ≡ 1
 once_within n index split low high = grind (arith, nat_tests, split, low, high)
 
--- an object lives exactly where it has begun
-live_begun : (k : Plain) (class : Class) (index : ℕ) → AreNamed k.table k.threads → is_live k class index ≡ begun_in k.threads class index
-live_begun k class index named = by (begun_in k.threads class index) (named.live class index) where
-  by : (b : Bool) → times index (indices (names_in k class).live) ≡ cond b 1 0 → has (indices (names_in k class).live) index ≡ b
-  by true once = has_times index (indices (names_in k class).live) (omega (arith, once))
-  by false once = has_none index (indices (names_in k class).live) once
-
 has_names : (k : Plain) (class : Class) → IsSound k → HasNames k class
 has_names k class sound = record {
   once = λ index low high. once_within _ index (sound.named.split class index) low high;
-  begun = λ index. live_begun k class index sound.named;
+  begun = λ index. object_lives k.table k.threads class index sound.named;
 }
 
 pub names_agree : NamesAndObjectsAgree
 names_agree s xs is legal class = has_names _ class (sound_after s xs is legal)
 
-nothing_left : (k : Plain) (t : ℕ) → IsSound k → is_live k Task t ≡ false → thread_at k t ≡ no_thread
-nothing_left k t sound dead = sound.named.blank t (sym (live_begun k Task t sound.named) ∙ dead)
+nothing_left : (k : Plain) (t : ℕ) → IsSound k → lives (names_in k Task) t ≡ false → thread_at k t ≡ no_thread
+nothing_left k t sound dead = sound.named.blank t (sym (object_lives k.table k.threads Task t sound.named) ∙ dead)
 
 pub deleted_left : NothingIsLeftOfDeletedTasks
 deleted_left s xs is legal t dead = nothing_left _ t (sound_after s xs is legal) dead

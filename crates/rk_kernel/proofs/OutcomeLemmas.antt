@@ -12,7 +12,7 @@ use Rattle.rk_model.specs.declared.scenario.Op.{Op}
 use Rattle.rk_model.specs.declared.ids.Class.{Class}
 use Rattle.rk_model.specs.Names.{taken, least_named}
 use Rattle.rk_model.specs.Directives.Objects.{names_in, put_names, create_at, unless, create, on_named, ident}
-use Rattle.rk_model.specs.Directives.Tasks.{has_begun}
+use Rattle.rk_model.specs.Directives.Objects.{has_begun}
 use Rattle.rk_model.specs.Status.{status_code}
 use Rattle.rk_model.specs.State.{Plain, no_thread, thread_at, cluster_at, op_at}
 use Rattle.rk_model.specs.Scheduling.Timers.{times_armed, arm}

@@ -13,7 +13,7 @@ use Rattle.rk_model.specs.State.{Plain, ClusterState, no_thread, thread_at}
 use Rattle.rk_model.specs.Scheduling.Priorities.{is_eligible, is_started, is_no_wait, spins_in, standings, no_standing}
 use Rattle.rk_model.specs.declared.ids.Class.{Class}
 use Rattle.rk_model.specs.declared.ids.Class.TheVariants.{Task}
-use Rattle.rk_model.specs.Directives.Tasks.{has_begun, begun_in}
+use Rattle.rk_model.specs.Directives.Objects.{has_begun, begun_in}
 use Rattle.rk_parts.specs.Threads.{own_standing}
 use Rattle.rk_parts.proofs.StandingLemmas.{length-standings, standing_own, standings_say}
 use Rattle.rk_model.specs.Scheduling.Running.{runs_somewhere}

@@ -1,17 +1,21 @@
 -- What the rows of the kernel do to the parts that are lent, against what they come to.
-use Rattle.std.specs.Prelude.{ℕ, ◌≡◌, ◌<◌, List, Option, Result, Ok, Err, length}
+use Rattle.std.specs.Prelude.{ℕ, ◌≡◌, ◌<◌, List, Bool, true, false, Option, Result, Ok, Err, length}
 use Rattle.rk_model.specs.declared.entry.Answer.{Answer}
+use Rattle.rk_model.specs.declared.entry.Answer.TheVariants as told
 use Rattle.rk_model.specs.declared.ids.Class.{Class}
 use Rattle.rk_model.specs.declared.scenario.Scenario.{Scenario}
+use Rattle.rk_model.specs.declared.state.Armer.{Armer}
+use Rattle.rk_model.specs.declared.state.Armer.TheVariants.{Thread as OfThread}
 use Rattle.rk_model.specs.declared.status.Status.{Status}
 use Rattle.rk_model.specs.Ids.{id_of}
 use Rattle.rk_model.specs.Names.{Table}
 use Rattle.rk_model.specs.State.{Plain}
-use Rattle.rk_model.specs.Directives.Objects.{create}
+use Rattle.rk_model.specs.Directives.Objects.{has_begun, create}
 use Rattle.rk_model.specs.Directives.Outcomes.{Outcome, Refused, done, answer_of, changed}
 use Rattle.rk_parts.specs.declared.parts.ClusterPart.{ClusterPart}
 use Rattle.rk_parts.specs.declared.parts.GroupPart.{GroupPart}
-use Rattle.rk_parts.specs.Joined.{joined}
+use Rattle.rk_parts.specs.declared.parts.AllParts.{AllParts}
+use Rattle.rk_parts.specs.Joined.{joined, plain_of, thread_lent}
 use Rattle.rk_parts.specs.Lent.{AreLaid, layouts, stored, frame}
 
 -- The parts stand for the state that this makes of the one that they stood for, whatever is not lent; and they keep their frame.
@@ -25,12 +29,55 @@ pub record Does (s : Scenario) (row : Plain → Outcome) (answer : Answer) (befo
   pub state : (table : Table) (groups : List GroupPart) → AreLaid s.clusters (layouts before) → joined s table after groups ≡ changed (joined s table before groups) (row (joined s table before groups))
   pub kept : frame after ≡ frame before
 
+-- All cluster parts and the table stand for the state that this makes of the one that they stood for; the parts are still parts of it, and store the same.
+pub record BecomesWide (s : Scenario) (change : Plain → Plain) (before : List ClusterPart) (table : Table) (after : List ClusterPart) (table' : Table) : Type 0 where
+  pub state : (groups : List GroupPart) → AreLaid s.clusters (layouts before) → joined s table' after groups ≡ change (joined s table before groups)
+  pub laid : AreLaid s.clusters (layouts before) → AreLaid s.clusters (layouts after)
+  pub kept : stored after ≡ stored before
+
 -- A wide row, which is lent all cluster parts and the table: the answer is that of its outcome, the state is changed as it says, and the parts are still parts of that state and store the same.
 pub record DoesWide (s : Scenario) (row : Plain → Outcome) (answer : Answer) (before : List ClusterPart) (table : Table) (after : List ClusterPart) (table' : Table) : Type 0 where
   pub told : (groups : List GroupPart) → answer ≡ answer_of (row (joined s table before groups))
   pub state : (groups : List GroupPart) → AreLaid s.clusters (layouts before) → joined s table' after groups ≡ changed (joined s table before groups) (row (joined s table before groups))
   pub laid : AreLaid s.clusters (layouts before) → AreLaid s.clusters (layouts after)
   pub kept : stored after ≡ stored before
+
+-- what of all parts no directive touches
+pub record Untouched : Type 0 where
+  pub scenario : Scenario
+  pub groups : List GroupPart
+  pub time : ℕ
+
+abbrev pub untouched : AllParts → Untouched
+untouched all = record { scenario = all.scenario; groups = all.groups; time = all.table.present }
+
+-- A row that is lent all parts: the answer is that of the outcome, the state is changed as it says, the parts are still parts of that state and store the same, and the rest is untouched.
+pub record DoesAll (o : Outcome) (answer : Answer) (before after : AllParts) : Type 0 where
+  pub told : answer ≡ answer_of o
+  pub state : plain_of after ≡ changed (plain_of before) o
+  pub laid : AreLaid before.scenario.clusters (layouts after.clusters)
+  pub kept : stored after.clusters ≡ stored before.clusters
+  pub rest : untouched after ≡ untouched before
+
+-- the state with another table
+abbrev pub with_table : Plain → Table → Plain
+with_table k table = record k { table = table }
+
+-- The answer is that of the outcome, which changes nothing.
+pub record Tells (o : Outcome) (answer : Answer) (k : Plain) : Type 0 where
+  pub told : answer ≡ answer_of o
+  pub state : changed k o ≡ k
+
+-- the thread whose timer this is lives
+abbrev pub HasLife : List ClusterPart → Armer → Type 0
+HasLife parts (OfThread t) = has_begun (thread_lent parts t).life ≡ true
+
+-- whether the caller goes on after an answer
+abbrev pub goes_on_after : Answer → Bool
+goes_on_after (told.Refused status) = true
+goes_on_after (told.Done status out last) = true
+goes_on_after told.Waiting = false
+goes_on_after (told.Gone status) = false
 
 -- An object of a class got an index and its name, and whatever is put there then was created; or the create is refused with this status, whatever it puts, and nothing changed.
 abbrev pub Creates : Plain → Class → ℕ → Option Status → Result ℕ Status → Plain → Type 0

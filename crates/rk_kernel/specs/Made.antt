@@ -1,8 +1,19 @@
--- Clusters as they are made at opening.
-use Rattle.std.specs.Prelude.{ℕ, ◌+◌, List, [], ◌∷◌}
-use Rattle.rk_cluster.specs.Clusters.{Cluster, empty_cluster}
+-- Parts as they are made at opening.
+use Rattle.std.specs.Prelude.{ℕ, List, [], ◌∷◌, take}
+use Rattle.std.specs.List.{slice_index_or}
+use Rattle.rk_model.specs.Text.Scenarios.{cpus_in}
+use Rattle.rk_cluster.specs.Clusters.{empty_cluster}
+use Rattle.rk_parts.specs.declared.parts.ClusterPart.{ClusterPart}
+use Rattle.rk_parts.specs.Threads.{no_threads}
 
--- the clusters of so many processors each, numbered from c on, with processors from p on, without threads
-abbrev pub made_from : ℕ → ℕ → List ℕ → List Cluster
-made_from c p [] = []
-made_from c p (count ∷ counts) = empty_cluster c p count ∷ made_from (c + 1) (p + count) counts
+-- the part of a cluster without threads, of so many processors from a first on
+abbrev pub vacant_part : ℕ → ℕ → ℕ → ClusterPart
+vacant_part number first count = record { present = 0; lined = empty_cluster number first count; timers = []; threads = no_threads; moves = [] }
+
+-- the part of a cluster among clusters of so many processors each
+abbrev pub vacant_in : List ℕ → ℕ → ClusterPart
+vacant_in counts c = vacant_part c (cpus_in (take c counts)) (slice_index_or counts c 0)
+
+-- the parts of all clusters, without threads
+abbrev pub vacant_parts : List ℕ → List ClusterPart
+vacant_parts counts = vacant_in counts 0 ∷ vacant_in counts 1 ∷ vacant_in counts 2 ∷ vacant_in counts 3 ∷ []

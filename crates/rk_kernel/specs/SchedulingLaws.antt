@@ -11,10 +11,9 @@ use Rattle.rk_model.specs.declared.entry.View.TheVariants.{Runs}
 use Rattle.rk_model.specs.Lists.{has, times}
 use Rattle.rk_model.specs.declared.ids.Class.{Class}
 use Rattle.rk_model.specs.declared.ids.Class.TheVariants.{Task}
-use Rattle.rk_model.specs.Names.{indices}
+use Rattle.rk_model.specs.Names.{indices, lives}
 use Rattle.rk_model.specs.State.{Plain, no_thread, thread_at, put_thread, op_at, cluster_at}
 use Rattle.rk_model.specs.Directives.Objects.{names_in, is_live}
-use Rattle.rk_model.specs.Directives.Tasks.{begun_in}
 use Rattle.rk_model.specs.Directives.Outcomes.{finished}
 use Rattle.rk_model.specs.Steps.{Act, act}
 use Rattle.rk_model.specs.Scheduling.Priorities.{urgency}
@@ -72,18 +71,18 @@ RunnersAreTheMostUrgent = AfterEach RunsTheMostUrgent
 abbrev pub NoneRunsTwice : Type 0
 NoneRunsTwice = AfterEach (λ k. (p q t : ℕ) → running k p ≡ Runs t → running k q ≡ Runs t → p ≡ q)
 
--- The names of a class: each index from 1 to 64 is that of one live object, once, or is free, once; and an object lives exactly where it has begun.
+-- The names of a class: each index from 1 to 64 is that of one live object, once, or is free, once; and an object has a name exactly where it lives.
 pub record HasNames (k : Plain) (class : Class) : Type 0 where
   pub once : (index : ℕ) → 1 ≤ index → index ≤ MOST_OBJECTS → times index (indices (names_in k class).live) + times index (names_in k class).free ≡ 1
-  pub begun : (index : ℕ) → is_live k class index ≡ begun_in k.threads class index
+  pub begun : (index : ℕ) → lives (names_in k class) index ≡ is_live k class index
 
 -- It is so of each class after each legal history.
 abbrev pub NamesAndObjectsAgree : Type 0
 NamesAndObjectsAgree = AfterEach (λ k. (class : Class) → HasNames k class)
 
--- Where no task lives, there is no thread: nothing is left there of one that was deleted.
+-- Where no task has a name, there is no thread: nothing is left there of one that was deleted.
 abbrev pub NothingIsLeftOfDeletedTasks : Type 0
-NothingIsLeftOfDeletedTasks = AfterEach (λ k. (t : ℕ) → is_live k Task t ≡ false → thread_at k t ≡ no_thread)
+NothingIsLeftOfDeletedTasks = AfterEach (λ k. (t : ℕ) → lives (names_in k Task) t ≡ false → thread_at k t ≡ no_thread)
 
 -- The history in which always the lowest-numbered processor that has a directive acts ends with End, or has as many entries as it may have.
 abbrev pub LowestGoesOn : Type 0

@@ -1,25 +1,28 @@
 //! A step of the clock: work is charged, and the timers that are due fire.
 
-ghost use Rattle.std.specs.Prelude.{◌≡◌, ◌<◌, ◌≤◌, ◌+◌, ℕ, length};
-ghost use Rattle.rk_model.specs.State.{thread_at};
-ghost use Rattle.rk_model.specs.Scheduling.Running.{cpu_count};
+ghost use Rattle.std.specs.Prelude.{◌≡◌, ◌<◌, ◌≤◌, length};
+ghost use Rattle.rk_model.specs.declared.scenario.Scenario.{Scenario as ScenarioView};
 ghost use Rattle.rk_model.specs.Directives.Outcomes.{reply_at_timer};
-ghost use Rattle.rk_model.specs.Scheduling.Ticks.{charged, charge_from, pass, rung, fire_cluster, fire_all, tick};
+ghost use Rattle.rk_model.specs.Scheduling.Ticks.{charged, charge_from, pass, rung, fire_cluster, fire_all};
 ghost use Rattle.rk_model.specs.Limits.{AreRunnable};
 ghost use Rattle.rk_parts.specs.Firing.{due_now, FiresFirst};
-ghost use Rattle.rk_parts.specs.Pieces.{plain_of};
-ghost use Rattle.rk_parts.specs.Pinned.{stored, IsNoted};
+ghost use Rattle.rk_parts.specs.Joined.{plain_of, threads_of};
+ghost use Rattle.rk_parts.specs.Lent.{frame};
+ghost use Rattle.rk_parts.specs.Noted.{AreNoted};
+ghost use Rattle.rk_kernel.specs.Does.{Becomes, HasLife, untouched};
 ghost use Rattle.rk_kernel.specs.Manned.{RunOnce};
-ghost use Rattle.rk_kernel.specs.Sound.{IsSound};
+ghost use Rattle.rk_kernel.specs.Ready.{IsReady};
 ghost use Rattle.rk_kernel.specs.Step.{IsTick};
 
 use crate::directives::outcomes::end_wait;
 use crate::steps::CoreTick;
 use rk_model::{Armer, Reply, Scenario, Status, Thread, View, Wait};
 use rk_parts::arrival::arrive;
-use rk_parts::core_state::Core;
+use rk_parts::lent::{renew, thread_of};
+use rk_parts::parts::{AllParts, ClusterPart};
 use rk_parts::processors::{count_cpus, least_of, view_on};
-use rk_parts::settle::settle_core;
+use rk_parts::settle::settle_parts;
+use rk_parts::ticks::{pass_tick, present};
 use rk_parts::timers::take_due_of;
 
 /// The thread after a tick through which it ran.
@@ -45,34 +48,34 @@ fn charged(scenario: &Scenario, thread: Thread) -> Thread
 }
 
 /// Charges each thread that runs.
-fn charge_all(core: &mut Core)
-    requires sound { IsSound (plain_of core.old) }
-    requires once { RunOnce (plain_of core.old) }
-    ensures charged { plain_of core.new ≡ record (plain_of core.old) { threads = charge_from (plain_of core.old) 1 core.old.threads.places } }
-    ensures kept { stored core.new ≡ stored core.old }
+fn charge_all(all: &mut AllParts)
+    requires ready { IsReady all.old }
+    requires once { RunOnce (plain_of all.old) }
+    ensures charged { plain_of all.new ≡ record (plain_of all.old) { threads = charge_from (plain_of all.old) 1 (threads_of all.old.clusters) } }
+    ensures kept { frame all.new.clusters ≡ frame all.old.clusters }
+    ensures noted { AreNoted (length all.old.scenario.clusters) all.new.clusters }
+    ensures rest { untouched all.new ≡ untouched all.old }
 {
-    for cpu in 0..count_cpus(core.clusters.as_slice()) {
-        if let View::Runs(thread) = view_on(core, cpu) {
+    for cpu in 0..count_cpus(&all.scenario) {
+        if let View::Runs(thread) = view_on(&all.clusters, cpu) {
             // Reading the index tells its range.
             let _index = thread.at();
-            let next = charged(&core.scenario, core.threads.get(thread));
-            core.threads.renew(thread, next);
+            let next = charged(&all.scenario, thread_of(&all.clusters, thread));
+            renew(&mut all.clusters, thread, next);
         }
     }
 }
 
 /// A tick passes, before any timer fires.
-fn pass(core: &mut Core)
-    requires sound { IsSound (plain_of core.old) }
-    requires once { RunOnce (plain_of core.old) }
-    requires noted { IsNoted core.old }
-    requires below { core.old.present < core.old.scenario.horizon }
-    ensures passed { plain_of core.new ≡ pass (plain_of core.old) }
-    ensures sound { IsSound (plain_of core.new) }
-    ensures noted { IsNoted core.new }
+fn pass(all: &mut AllParts)
+    requires ready { IsReady all.old }
+    requires once { RunOnce (plain_of all.old) }
+    requires below { (plain_of all.old).present < all.old.scenario.horizon }
+    ensures passed { plain_of all.new ≡ pass (plain_of all.old) }
+    ensures ready { IsReady all.new }
 {
-    charge_all(core);
-    core.present += 1;
+    charge_all(all);
+    pass_tick(all);
 }
 
 /// What a wait ends with when its timer fires.
@@ -87,84 +90,74 @@ fn reply_at_timer(wait: Option<Wait>) -> Reply
     }
 }
 
-/// A timer fires: the wait of its thread ends.
-fn rung(core: &mut Core, who: Armer)
-    requires { (t : ℕ) → (thread_at (plain_of core.old) t).home < length core.old.clusters }
-    ensures next { plain_of core.new ≡ rung (plain_of core.old) who }
-    ensures kept { stored core.new ≡ stored core.old }
+/// A timer fires: the wait of its thread, which lives, ends.
+fn rung(clusters: &mut [ClusterPart], who: Armer)
+    requires { HasLife clusters.old who }
+    ensures { (s : ScenarioView) → Becomes s (λ k. rung k who) clusters.old clusters.new }
 {
     match who {
         Armer::Thread(thread) => {
-            let wait = core.threads.get(thread).wait;
-            end_wait(core, thread, reply_at_timer(wait));
+            let wait = thread_of(clusters, thread).wait;
+            end_wait(clusters, thread, reply_at_timer(wait));
         }
     }
 }
 
 /// The first timer of a cluster that is due now fires, and the state settles; says whether there
 /// was one.
-fn fire_first(core: &mut Core, cluster: usize) -> bool
-    requires cluster { cluster < length core.old.clusters }
-    requires sound { IsSound (plain_of core.old) }
-    requires noted { IsNoted core.old }
-    ensures fires { FiresFirst cluster (due_now (plain_of core.old) cluster) (plain_of core.old) result (plain_of core.new) }
-    ensures clusters { length core.new.clusters ≡ length core.old.clusters }
-    ensures sound { IsSound (plain_of core.new) }
-    ensures noted { IsNoted core.new }
+fn fire_first(all: &mut AllParts, cluster: u8) -> bool
+    requires cluster { cluster < length all.old.scenario.clusters }
+    requires ready { IsReady all.old }
+    ensures fires { FiresFirst cluster (due_now (plain_of all.old) cluster) (plain_of all.old) result (plain_of all.new) }
+    ensures ready { IsReady all.new }
+    ensures scenario { all.new.scenario ≡ all.old.scenario }
 {
-    match take_due_of(core, cluster) {
+    match take_due_of(&mut all.clusters, cluster) {
         None => false,
         Some(timer) => {
-            rung(core, timer.who);
-            settle_core(core, &None);
+            rung(&mut all.clusters, timer.who);
+            settle_parts(&mut all.clusters, &None);
             true
         }
     }
 }
 
 /// All timers of a cluster that are due now fire.
-fn fire_cluster(core: &mut Core, cluster: usize)
-    requires cluster { cluster < length core.old.clusters }
-    requires sound { IsSound (plain_of core.old) }
-    requires noted { IsNoted core.old }
-    ensures fired { plain_of core.new ≡ fire_cluster (plain_of core.old) cluster }
-    ensures clusters { length core.new.clusters ≡ length core.old.clusters }
-    ensures sound { IsSound (plain_of core.new) }
-    ensures noted { IsNoted core.new }
+fn fire_cluster(all: &mut AllParts, cluster: u8)
+    requires cluster { cluster < length all.old.scenario.clusters }
+    requires ready { IsReady all.old }
+    ensures fired { plain_of all.new ≡ fire_cluster (plain_of all.old) cluster }
+    ensures ready { IsReady all.new }
+    ensures scenario { all.new.scenario ≡ all.old.scenario }
 {
-    'firing: while fire_first(core, cluster) {}
+    'firing: while fire_first(all, cluster) {}
 }
 
 /// All timers that are due now fire, cluster by cluster.
-fn fire_all(core: &mut Core)
-    requires sound { IsSound (plain_of core.old) }
-    requires noted { IsNoted core.old }
-    ensures fired { plain_of core.new ≡ fire_all (plain_of core.old) }
-    ensures sound { IsSound (plain_of core.new) }
-    ensures noted { IsNoted core.new }
+fn fire_all(all: &mut AllParts)
+    requires { IsReady all.old }
+    ensures fired { plain_of all.new ≡ fire_all (plain_of all.old) }
+    ensures ready { IsReady all.new }
 {
-    let count = core.clusters.len();
-    for cluster in 0..count {
-        fire_cluster(core, cluster);
+    for cluster in 0..all.scenario.clusters.len() {
+        fire_cluster(all, cluster as u8);
     }
 }
 
 /// A step of the clock.
-pub(crate) fn tick_core(core: &mut Core) -> CoreTick
-    requires sound { IsSound (plain_of core.old) }
-    requires once { RunOnce (plain_of core.old) }
-    requires noted { IsNoted core.old }
-    ensures step { IsTick (plain_of core.old) result (plain_of core.new) }
-    ensures sound { IsSound (plain_of core.new) }
-    ensures noted { IsNoted core.new }
+pub(crate) fn tick_core(all: &mut AllParts) -> CoreTick
+    requires ready { IsReady all.old }
+    requires once { RunOnce (plain_of all.old) }
+    ensures step { IsTick (plain_of all.old) result (plain_of all.new) }
+    ensures ready { IsReady all.new }
 {
-    if let Some(cpu) = least_of(core) {
+    if let Some(cpu) = least_of(&all.scenario, &all.clusters) {
         return CoreTick::NotYet(cpu);
     }
-    if core.present >= core.scenario.horizon {
+    if present(&all.clusters) >= all.scenario.horizon {
         return CoreTick::Ended;
     }
-    pass(core);
-    fire_all(core);
+    pass(all);
+    fire_all(all);
     CoreTick::Ticked
 }

@@ -1,59 +1,97 @@
 //! The directives: what the line of a thread does, or its return from a directive that waited.
+//!
+//! A narrow directive is done on the cluster parts that are lent, however many, and touches them
+//! through the accessors of `rk_parts` alone. A wide one needs all of them and the table.
 
 pub(crate) mod objects;
 pub(crate) mod outcomes;
 pub(crate) mod tasks;
 
-ghost use Rattle.std.specs.Prelude.{◌≡◌, ℕ, None};
-ghost use Rattle.rk_model.specs.State.{thread_at, put_thread};
-ghost use Rattle.rk_model.specs.Steps.{action};
-ghost use Rattle.rk_kernel.specs.Does.{Does};
+ghost use Rattle.std.specs.Prelude.{◌≡◌, ◌<◌, None, length, true, false};
+ghost use Rattle.rk_model.specs.declared.entry.Reply.{Reply as ReplyView};
+ghost use Rattle.rk_model.specs.declared.scenario.Scenario.{Scenario as ScenarioView};
+ghost use Rattle.rk_model.specs.Directives.Objects.{has_begun};
+ghost use Rattle.rk_model.specs.Limits.{AreRunnable};
+ghost use Rattle.rk_model.specs.Steps.{action, back, directive, is_wide};
+ghost use Rattle.rk_kernel.specs.Does.{Does, DoesAll};
 ghost use Rattle.rk_kernel.specs.Calls.{IsActing};
-ghost use Rattle.rk_parts.specs.Pieces.{plain_of};
-ghost use Rattle.rk_parts.specs.Pinned.{stored};
+ghost use Rattle.rk_parts.specs.Joined.{plain_of, thread_lent, timers_lent};
+ghost use Rattle.rk_parts.specs.Whole.{AreWhole};
 
-use rk_model::{Answer, Op, Thread, ThreadIx};
-use rk_parts::core_state::Core;
+use rk_model::{Answer, Op, Reply, Scenario, Thread, ThreadIx};
+use rk_parts::lent::{put, thread_of};
+use rk_parts::parts::{AllParts, ClusterPart};
 use tasks::{
     task_create, task_delete, task_exit, task_ident, task_resume, task_set_priority, task_start,
     task_suspend, task_wake_after,
 };
 
 /// Lets the caller return from a directive that waited.
-fn back(core: &mut Core, caller: ThreadIx)
-    ensures next { plain_of core.new ≡ put_thread (plain_of core.old) caller (record (thread_at (plain_of core.old) caller) { finished = None }) }
-    ensures kept { stored core.new ≡ stored core.old }
+fn back(clusters: &mut [ClusterPart], caller: ThreadIx, reply: Reply) -> Answer
+    requires { has_begun (thread_lent clusters.old caller).life ≡ true }
+    ensures { (s : ScenarioView) → Does s (λ k. back k caller reply) result clusters.old clusters.new }
 {
-    let thread = core.threads.get(caller);
+    let thread = thread_of(clusters, caller);
     let returned = Thread {
         finished: None,
         ..thread
     };
-    core.threads.put(caller, returned);
+    put(clusters, caller, returned);
+    Answer::Done(reply.status, reply.out, None)
+}
+
+/// Does the narrow directive of a line.
+fn perform_narrow(
+    scenario: &Scenario,
+    clusters: &mut [ClusterPart],
+    caller: ThreadIx,
+    op: Option<Op>,
+) -> Answer
+    requires narrow { is_wide op ≡ false }
+    requires lives { has_begun (thread_lent clusters.old caller).life ≡ true }
+    requires room { length (timers_lent clusters.old caller) < 64 }
+    requires bodies { AreRunnable scenario.now.bodies }
+    ensures { Does scenario.now (λ k. directive k caller op) result clusters.old clusters.new }
+{
+    match op {
+        Some(Op::TaskStart(id, body)) => task_start(scenario, clusters, caller, id, body),
+        Some(Op::TaskSuspend(id)) => task_suspend(clusters, caller, id),
+        Some(Op::TaskResume(id)) => task_resume(clusters, caller, id),
+        Some(Op::TaskSetPriority(id, prio, _)) => task_set_priority(clusters, caller, id, prio),
+        Some(Op::TaskWakeAfter(ticks)) => task_wake_after(clusters, caller, ticks),
+        Some(Op::Work(_) | Op::Goto(_)) | None => task_exit(clusters, caller),
+        Some(Op::TaskCreate(_, _, _) | Op::TaskIdent(_, _) | Op::TaskDelete(_)) => unreachable!(),
+    }
+}
+
+/// Does the directive of a line.
+fn perform(all: &mut AllParts, caller: ThreadIx, op: Option<Op>) -> Answer
+    requires acts { IsActing (plain_of all.old) caller }
+    requires whole { AreWhole all.old }
+    ensures { DoesAll (directive (plain_of all.old) caller op) result all.old all.new }
+{
+    match op {
+        Some(Op::TaskCreate(name, prio, _)) => {
+            task_create(&mut all.clusters, &mut all.table.names, caller, name, prio)
+        }
+        Some(Op::TaskIdent(name, _)) => task_ident(&all.table.names, name),
+        Some(Op::TaskDelete(id)) => {
+            task_delete(&mut all.clusters, &mut all.table.names, caller, id)
+        }
+        _ => perform_narrow(&all.scenario, &mut all.clusters, caller, op),
+    }
 }
 
 /// Does the next action of a thread, but for what follows its answer.
 #[tactic(auto, unfolding(rk_model::specs::Steps::action))]
-pub(crate) fn action(core: &mut Core, caller: ThreadIx) -> Answer
-    requires { IsActing (plain_of core.old) caller }
-    ensures { Does (action (plain_of core.old) caller) result core.old core.new }
+pub(crate) fn action(all: &mut AllParts, caller: ThreadIx) -> Answer
+    requires acts { IsActing (plain_of all.old) caller }
+    requires whole { AreWhole all.old }
+    ensures { DoesAll (action (plain_of all.old) caller) result all.old all.new }
 {
-    let thread = core.threads.get(caller);
+    let thread = thread_of(&all.clusters, caller);
     match thread.finished {
-        Some(reply) => {
-            back(core, caller);
-            Answer::Done(reply.status, reply.out, None)
-        }
-        None => match core.scenario.op_at(thread.body, thread.line) {
-            Some(Op::TaskCreate(name, prio, _)) => task_create(core, caller, name, prio),
-            Some(Op::TaskIdent(name, _)) => task_ident(core, name),
-            Some(Op::TaskStart(id, body)) => task_start(core, caller, id, body),
-            Some(Op::TaskSuspend(id)) => task_suspend(core, caller, id),
-            Some(Op::TaskResume(id)) => task_resume(core, caller, id),
-            Some(Op::TaskSetPriority(id, prio, _)) => task_set_priority(core, caller, id, prio),
-            Some(Op::TaskDelete(id)) => task_delete(core, caller, id),
-            Some(Op::TaskWakeAfter(ticks)) => task_wake_after(core, caller, ticks),
-            Some(Op::Work(_) | Op::Goto(_)) | None => task_exit(core, caller),
-        },
+        Some(reply) => back(&mut all.clusters, caller, reply),
+        None => perform(all, caller, all.scenario.op_at(thread.body, thread.line)),
     }
 }

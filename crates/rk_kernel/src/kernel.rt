@@ -12,29 +12,29 @@ use crate::opening::make_opening;
 use crate::steps::{CoreStep, CoreTick, step_core};
 use rk_model::limits::{CLOCK, MOST_PROCESSORS, MOST_TICKS};
 use rk_model::{Entry, History, NoMemory, Scenario, View, What};
-use rk_parts::core_state::Core;
+use rk_parts::parts::AllParts;
 use rk_parts::processors::{count_cpus, least_of, view_on};
+use rk_parts::ticks::present;
 use std::alloc::Global;
 use std::marker::Model;
 
 /// A running kernel. Contracts see the state that it stands for.
 #[derive(Debug, Drop)]
 pub struct Parts {
-    core: Core,
+    all: AllParts,
 }
 
 impl Model for Parts {
     ghost use Rattle.rk_model.specs.State.{Plain};
-    ghost use Rattle.rk_parts.specs.Pieces.{plain_of};
-    ghost use Rattle.rk_parts.specs.Pinned.{IsNoted};
-    ghost use Rattle.rk_kernel.specs.Sound.{IsSound};
+    ghost use Rattle.rk_parts.specs.Joined.{plain_of};
     ghost use Rattle.rk_kernel.specs.Manned.{AreManned};
+    ghost use Rattle.rk_kernel.specs.Ready.{IsReady};
 
     ghost Value = { Plain };
 
-    ghost view = { λ p. plain_of p.core };
+    ghost view = { λ p. plain_of p.all };
 
-    ghost invariant = { λ p. IsSound (plain_of p.core) × AreManned (plain_of p.core) × IsNoted p.core };
+    ghost invariant = { λ p. IsReady p.all × AreManned (plain_of p.all) };
 }
 
 impl Parts {
@@ -43,7 +43,7 @@ impl Parts {
         ensures count { result ≡ cpu_count self.now }
         ensures few { result ≤ MOST_PROCESSORS }
     {
-        count_cpus(self.core.clusters.as_slice()) as u8
+        count_cpus(&self.all.scenario)
     }
 
     /// The present tick, at most 1,000,000.
@@ -51,14 +51,14 @@ impl Parts {
         ensures value { result ≡ self.now.present }
         ensures small { result ≤ MOST_TICKS }
     {
-        self.core.present
+        present(&self.all.clusters)
     }
 
     /// The scenario that is run.
     pub fn scenario(&self) -> &Scenario
         ensures { result.now ≡ self.now.scenario }
     {
-        &self.core.scenario
+        &self.all.scenario
     }
 }
 
@@ -71,8 +71,8 @@ pub fn open_parts(alloc: Global, scenario: &Scenario) -> Result<Parts, NoMemory>
     requires { IsScenario scenario.now }
     ensures { IfOk result (λ p. p ≡ opening scenario.now) }
 {
-    let core = make_opening(alloc, scenario)?;
-    Ok(Parts { core })
+    let all = make_opening(alloc, scenario)?;
+    Ok(Parts { all })
 }
 
 /// A step of a processor, whose number is below `Parts::cpus`: its directive, or why it has none. A
@@ -83,14 +83,14 @@ pub fn step_all(parts: &mut Parts, cpu: u8) -> CoreStep
     ensures step { IsStep parts.old cpu result parts.new }
     ensures refused { RefusesAlone result parts.old parts.new }
 {
-    step_core(&mut parts.core, cpu)
+    step_core(&mut parts.all, cpu)
 }
 
 /// A step of the clock: a tick, the end, or the processor that comes first. It takes no memory.
 pub fn tick_all(parts: &mut Parts) -> CoreTick
     ensures { IsTick parts.old result parts.new }
 {
-    tick_core(&mut parts.core)
+    tick_core(&mut parts.all)
 }
 
 /// What a processor does, whose number is below `Parts::cpus`.
@@ -98,7 +98,7 @@ pub fn run_view(parts: &Parts, cpu: u8) -> View
     requires { cpu < cpu_count parts.now }
     ensures { result ≡ running parts.now cpu }
 {
-    view_on(&parts.core, cpu as usize)
+    view_on(&parts.all.clusters, cpu)
 }
 
 /// Replays one action of a seat, a processor from 0 to 7 or the clock, 8; does nothing if that seat
@@ -118,7 +118,7 @@ fn least_in(parts: &Parts) -> Option<u8>
     ensures least { result ≡ least parts.now }
     ensures found { IfSome result (λ cpu. IsSome (caller parts.now cpu) × (cpu < cpu_count parts.now) × (cpu < 8)) }
 {
-    least_of(&parts.core)
+    least_of(&parts.all.scenario, &parts.all.clusters)
 }
 
 /// An entry of the clock.

@@ -27,12 +27,12 @@ pub fn none_runs_twice()
 {}
 
 /// In each class each index from 1 to 64 is that of one live object, once, or is free, once; and an
-/// object lives exactly where it has begun.
+/// object has a name exactly where it lives.
 pub fn names_and_objects_agree()
     ensures { NamesAndObjectsAgree }
 {}
 
-/// Where no task lives, there is no thread: nothing is left there of one that was deleted.
+/// Where no task has a name, there is no thread: nothing is left there of one that was deleted.
 pub fn nothing_is_left_of_deleted_tasks()
     ensures { NothingIsLeftOfDeletedTasks }
 {}

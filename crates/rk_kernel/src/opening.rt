@@ -1,22 +1,26 @@
-ghost use Rattle.std.specs.Prelude.{◌≡◌, ◌<◌, ◌≤◌, ◌+◌, ℕ, length, [], IfOk, map, replicate};
-ghost use Rattle.std.specs.List.{AllByRecursion};
-ghost use Rattle.rk_model.specs.Scheduling.Priorities.{no_standing};
+//! The state at opening.
+
+ghost use Rattle.std.specs.Prelude.{◌≡◌, ◌<◌, ◌≤◌, ◌+◌, ℕ, List, [], IfOk, IsSome, length, map};
+ghost use Rattle.std.specs.List.{AllByRecursion, slice_index_or};
 ghost use Rattle.rk_model.specs.declared.scenario.Init.{Init as InitLine};
-ghost use Rattle.rk_model.specs.Names.{no_objects};
-ghost use Rattle.rk_model.specs.Histories.{begun, places, free_cluster, vacant, begun_names, opening};
+ghost use Rattle.rk_model.specs.Names.{Table as TableView, no_objects};
+ghost use Rattle.rk_model.specs.Histories.{begun, places, vacant, begun_names, opening};
 ghost use Rattle.rk_model.specs.Limits.{AreRunnable, IsWithinLimits};
 ghost use Rattle.rk_model.specs.Text.Scenarios.{cpus_in};
-ghost use Rattle.rk_parts.specs.Pieces.{cluster_of, clusters_of, plain_of};
-ghost use Rattle.rk_parts.specs.Pinned.{linings, IsNoted};
-ghost use Rattle.rk_cluster.specs.Clusters.{empty_cluster};
-ghost use Rattle.rk_kernel.specs.Made.{made_from};
-ghost use Rattle.rk_kernel.specs.Sound.{IsSound};
+ghost use Rattle.rk_parts.specs.declared.parts.GroupPart.{GroupPart as GroupView};
+ghost use Rattle.rk_parts.specs.Joined.{joined, plain_of, threads_of};
+ghost use Rattle.rk_parts.specs.Lent.{number_in, layouts, stored, AreLaid};
+ghost use Rattle.rk_parts.specs.Noted.{bare, AreNoted};
+ghost use Rattle.rk_parts.specs.Whole.{AreWhole};
+ghost use Rattle.rk_kernel.specs.Made.{vacant_part, vacant_parts};
+ghost use Rattle.rk_kernel.specs.Ready.{IsReady};
 
 use rk_cluster::{Cluster, Moves};
 use rk_model::{Body, Class, Init, Items, Life, NoMemory, Scenario, Thread, ThreadIx};
 use rk_parts::arrival::arrive;
-use rk_parts::core_state::{ClusterPart, Core, Timers};
-use rk_parts::settle::settle_core;
+use rk_parts::lent::make;
+use rk_parts::parts::{AllParts, ClusterPart, GroupPart, TablePart, Timers};
+use rk_parts::settle::settle_parts;
 use rk_parts::table::Table;
 use rk_parts::threads::Threads;
 use std::alloc::Global;
@@ -56,50 +60,70 @@ fn copy_scenario(alloc: Global, scenario: &Scenario) -> Result<Scenario, NoMemor
     })
 }
 
-/// A cluster of so many processors, none of which has a thread.
+/// How many processors a cluster has; none where there is no such cluster.
+fn count_at(counts: &[u8], cluster: usize) -> u8
+    ensures { result ≡ slice_index_or counts.now cluster 0 }
+{
+    match counts.get(cluster) {
+        Some(count) => *count,
+        None => 0,
+    }
+}
+
+/// The part of a cluster of so many processors, none of which has a thread.
 fn make_cluster(alloc: Global, number: u8, first: u8, count: u8) -> Result<ClusterPart, NoMemory>
     requires number { number < 4 }
     requires cpus { first + count ≤ 8 }
-    ensures made { IfOk result (λ part. cluster_of part ≡ free_cluster count) }
-    ensures lined { IfOk result (λ part. part.lined ≡ empty_cluster number first count) }
+    ensures { IfOk result (λ part. bare part ≡ vacant_part number first count) }
 {
     Ok(ClusterPart {
+        present: 0,
         lined: Cluster::new(alloc, number, first, count)?,
         timers: Timers::new(alloc)?,
+        threads: Threads::new(alloc)?,
         moves: Moves::new(alloc)?,
     })
 }
 
-/// Clusters of which no processor has a thread. Their processors are numbered through all of them.
-fn make_clusters(alloc: Global, counts: &[u8]) -> Result<Vec<ClusterPart>, NoMemory>
+/// The parts of the clusters, of which no processor has a thread. Their processors are numbered
+/// through all of them.
+fn make_clusters(alloc: Global, counts: &[u8]) -> Result<[ClusterPart; 4], NoMemory>
     requires clusters { length counts.now ≤ 4 }
     requires cpus { cpus_in counts.now ≤ 8 }
-    ensures made { IfOk result (λ v. clusters_of v.items ≡ map free_cluster counts.now) }
-    ensures lined { IfOk result (λ v. linings v.items ≡ made_from 0 0 counts.now) }
+    ensures { IfOk result (λ parts. map bare parts ≡ vacant_parts counts.now) }
 {
-    let mut clusters = Vec::new(alloc);
-    let mut first = 0;
-    for at in 0..counts.len() {
-        clusters.push(make_cluster(alloc, at as u8, first, counts[at])?)?;
-        first += counts[at];
-    }
-    Ok(clusters)
+    let second = count_at(counts, 0);
+    let third = second + count_at(counts, 1);
+    let fourth = third + count_at(counts, 2);
+    Ok([
+        make_cluster(alloc, 0, 0, second)?,
+        make_cluster(alloc, 1, second, count_at(counts, 1))?,
+        make_cluster(alloc, 2, third, count_at(counts, 2))?,
+        make_cluster(alloc, 3, fourth, count_at(counts, 3))?,
+    ])
 }
 
-/// The state in which there is no task yet.
-fn make_vacant(alloc: Global, scenario: &Scenario) -> Result<Core, NoMemory>
+/// The parts of a state in which there is no task yet.
+fn make_vacant(alloc: Global, scenario: &Scenario) -> Result<AllParts, NoMemory>
     requires { IsWithinLimits scenario.now }
-    ensures vacant { IfOk result (λ core. plain_of core ≡ vacant scenario.now) }
-    ensures stood { IfOk result (λ core. core.threads.stood ≡ replicate 64 no_standing) }
-    ensures lined { IfOk result (λ core. linings core.clusters ≡ made_from 0 0 scenario.now.clusters) }
+    ensures vacant { IfOk result (λ all. plain_of all ≡ vacant scenario.now) }
+    ensures whole { IfOk result (λ all. AreWhole all) }
+    ensures noted { IfOk result (λ all. AreNoted (length scenario.now.clusters) all.clusters) }
 {
     let clusters = make_clusters(alloc, scenario.clusters.as_slice())?;
-    Ok(Core {
+    Ok(AllParts {
         scenario: copy_scenario(alloc, scenario)?,
-        present: 0,
-        clusters: Items::from_vec(clusters),
-        threads: Threads::new(alloc)?,
-        table: Table::new(alloc)?,
+        clusters,
+        groups: [
+            GroupPart { number: 0, present: 0 },
+            GroupPart { number: 1, present: 0 },
+            GroupPart { number: 2, present: 0 },
+            GroupPart { number: 3, present: 0 },
+        ],
+        table: TablePart {
+            present: 0,
+            names: Table::new(alloc)?,
+        },
     })
 }
 
@@ -118,17 +142,19 @@ fn begin(scenario: &Scenario, init: &Init) -> Thread
     arrive(scenario, thread, 1)
 }
 
-/// Starts the tasks of the init lines.
-fn start_all(threads: &mut Threads, scenario: &Scenario)
-    requires none { threads.old.places ≡ places 64 [] }
-    requires few { length scenario.now.inits ≤ 64 }
-    requires bodies { AreRunnable scenario.now.bodies }
-    ensures started { threads.new.places ≡ places 64 (map (begun scenario.now) scenario.now.inits) }
-    ensures stood { threads.new.stood ≡ threads.old.stood }
+/// Starts the tasks of the init lines, each in the part of its home.
+fn start_all(scenario: &Scenario, clusters: &mut [ClusterPart])
+    requires within { IsWithinLimits scenario.now }
+    requires none { threads_of clusters.old ≡ places 64 [] }
+    requires laid { AreLaid scenario.now.clusters (layouts clusters.old) }
+    requires lent { (c : ℕ) → c < length scenario.now.clusters → IsSome (number_in clusters.old c) }
+    ensures started { (table : TableView) (groups : List GroupView) → joined scenario.now table clusters.new groups ≡ record (joined scenario.now table clusters.old groups) { threads = places 64 (map (begun scenario.now) scenario.now.inits) } }
+    ensures laid { AreLaid scenario.now.clusters (layouts clusters.new) }
+    ensures kept { stored clusters.new ≡ stored clusters.old }
 {
     for at in 0..scenario.inits.len() {
         let thread = begin(scenario, &scenario.inits.at(at));
-        threads.put(ThreadIx::new(at as u8 + 1), thread);
+        make(clusters, ThreadIx::new(at as u8 + 1), thread);
     }
 }
 
@@ -144,16 +170,15 @@ fn name_all(table: &mut Table, inits: &[Init])
     }
 }
 
-/// The state at opening.
-pub(crate) fn make_opening(alloc: Global, scenario: &Scenario) -> Result<Core, NoMemory>
+/// The parts of the state at opening.
+pub(crate) fn make_opening(alloc: Global, scenario: &Scenario) -> Result<AllParts, NoMemory>
     requires { IsWithinLimits scenario.now }
-    ensures opening { IfOk result (λ core. plain_of core ≡ opening scenario.now) }
-    ensures sound { IfOk result (λ core. IsSound (plain_of core)) }
-    ensures noted { IfOk result (λ core. IsNoted core) }
+    ensures opening { IfOk result (λ all. plain_of all ≡ opening scenario.now) }
+    ensures ready { IfOk result (λ all. IsReady all) }
 {
-    let mut core = make_vacant(alloc, scenario)?;
-    start_all(&mut core.threads, scenario);
-    name_all(&mut core.table, scenario.inits.as_slice());
-    settle_core(&mut core, &None);
-    Ok(core)
+    let mut all = make_vacant(alloc, scenario)?;
+    start_all(scenario, &mut all.clusters);
+    name_all(&mut all.table.names, scenario.inits.as_slice());
+    settle_parts(&mut all.clusters, &None);
+    Ok(all)
 }

@@ -6,17 +6,17 @@ ghost use Rattle.rk_model.specs.Scheduling.Running.{caller};
 ghost use Rattle.rk_model.specs.Scheduling.Settling.{settle};
 ghost use Rattle.rk_model.specs.Directives.Outcomes.{answer_of, after_outcome, last_of};
 ghost use Rattle.rk_model.specs.Steps.{action, entry_of};
-ghost use Rattle.rk_parts.specs.Pieces.{plain_of};
-ghost use Rattle.rk_parts.specs.Pinned.{IsNoted};
-ghost use Rattle.rk_kernel.specs.Sound.{IsSound};
+ghost use Rattle.rk_parts.specs.Joined.{plain_of};
+ghost use Rattle.rk_kernel.specs.Ready.{IsReady};
 ghost use Rattle.rk_kernel.specs.Step.{IsStep};
 
 use crate::directives::action;
 use crate::directives::outcomes::{conclude, last_of};
 use rk_model::{Entry, ThreadIx, What, Why};
-use rk_parts::core_state::Core;
+use rk_parts::lent::thread_of;
+use rk_parts::parts::AllParts;
 use rk_parts::processors::{caller_on, why_not};
-use rk_parts::settle::settle_core;
+use rk_parts::settle::settle_parts;
 
 /// What a step of a processor was.
 #[derive(Clone, Copy, Debug, PartialEq, Eq)]
@@ -39,20 +39,18 @@ pub enum CoreTick {
 }
 
 /// The thread's next action on a processor, and the settling after it.
-fn act_by(core: &mut Core, cpu: u8, thread: ThreadIx) -> Entry
-    requires caller { caller (plain_of core.old) cpu ≡ Some thread }
-    requires sound { IsSound (plain_of core.old) }
-    requires noted { IsNoted core.old }
-    ensures entry { result ≡ entry_of (plain_of core.old) cpu thread (answer_of (action (plain_of core.old) thread)) }
-    ensures next { plain_of core.new ≡ settle (plain_of core.old) (after_outcome (plain_of core.old) thread (action (plain_of core.old) thread)) (option_to_list (last_of (answer_of (action (plain_of core.old) thread)))) }
-    ensures sound { IsSound (plain_of core.new) }
-    ensures noted { IsNoted core.new }
+fn act_by(all: &mut AllParts, cpu: u8, thread: ThreadIx) -> Entry
+    requires caller { caller (plain_of all.old) cpu ≡ Some thread }
+    requires ready { IsReady all.old }
+    ensures entry { result ≡ entry_of (plain_of all.old) cpu thread (answer_of (action (plain_of all.old) thread)) }
+    ensures next { plain_of all.new ≡ settle (plain_of all.old) (after_outcome (plain_of all.old) thread (action (plain_of all.old) thread)) (option_to_list (last_of (answer_of (action (plain_of all.old) thread)))) }
+    ensures ready { IsReady all.new }
 {
-    let was = core.threads.get(thread);
-    let answer = action(core, thread);
-    let reply = conclude(core, thread, &answer);
+    let was = thread_of(&all.clusters, thread);
+    let answer = action(all, thread);
+    let reply = conclude(&all.scenario, &mut all.clusters, thread, &answer);
     let last = last_of(&answer);
-    settle_core(core, &last);
+    settle_parts(&mut all.clusters, &last);
     Entry {
         seat: cpu,
         what: match was.finished {
@@ -68,16 +66,14 @@ fn act_by(core: &mut Core, cpu: u8, thread: ThreadIx) -> Entry
 }
 
 /// A step of a processor.
-pub(crate) fn step_core(core: &mut Core, cpu: u8) -> CoreStep
+pub(crate) fn step_core(all: &mut AllParts, cpu: u8) -> CoreStep
     requires cpu { cpu < 8 }
-    requires sound { IsSound (plain_of core.old) }
-    requires noted { IsNoted core.old }
-    ensures step { IsStep (plain_of core.old) cpu result (plain_of core.new) }
-    ensures sound { IsSound (plain_of core.new) }
-    ensures noted { IsNoted core.new }
+    requires ready { IsReady all.old }
+    ensures step { IsStep (plain_of all.old) cpu result (plain_of all.new) }
+    ensures ready { IsReady all.new }
 {
-    match caller_on(core, cpu as usize) {
-        None => CoreStep::Nothing(why_not(core, cpu as usize)),
-        Some(thread) => CoreStep::Did(act_by(core, cpu, thread)),
+    match caller_on(&all.clusters, cpu) {
+        None => CoreStep::Nothing(why_not(&all.clusters, cpu)),
+        Some(thread) => CoreStep::Did(act_by(all, cpu, thread)),
     }
 }

@@ -13,5 +13,6 @@ pub mod SettlingLemmas
 pub mod KeyedLineLemmas
 pub mod TickPartLemmas
 pub mod SettledPartLemmas
+pub mod WholeLemmas
 pub mod ClusterRegisterLemmas
 pub mod RegisterFillLemmas

@@ -211,7 +211,7 @@ settled_at last parts i within = get_or-map (settled_part last) parts i no_part 
 pub part_settled : (last : List ℕ) (mid new : List ClusterPart) (i : ℕ) → map bare new ≡ map (settled_part last) mid → i < length mid → bare (part_at new i) ≡ settled_part last (part_at mid i)
 part_settled last mid new i done within = sym (bare_at new i) ∙ ap (λ (ps : List ClusterPart). get_or ps i no_part) done ∙ settled_at last mid i within
 
-length_settled : (last : List ℕ) (mid new : List ClusterPart) → map bare new ≡ map (settled_part last) mid → length new ≡ length mid
+pub length_settled : (last : List ℕ) (mid new : List ClusterPart) → map bare new ≡ map (settled_part last) mid → length new ≡ length mid
 length_settled last mid new done = sym (length-map new bare) ∙ ap (λ (ps : List ClusterPart). length ps) done ∙ length-map mid (settled_part last)
 
 -- settled parts lie as before,

@@ -7,7 +7,7 @@ use Rattle.rk_model.specs.declared.entry.Answer.{Answer}
 use Rattle.rk_model.specs.declared.entry.Reply.{Reply}
 use Rattle.rk_model.specs.declared.state.Thread.{Thread}
 use Rattle.rk_model.specs.State.{Plain, no_thread, thread_at, put_thread, op_at}
-use Rattle.rk_model.specs.Directives.Tasks.{has_begun}
+use Rattle.rk_model.specs.Directives.Objects.{has_begun}
 use Rattle.rk_model.specs.Directives.Outcomes.{Outcome, answer_of, changed, concluded, after_outcome}
 use Rattle.rk_model.specs.Steps.{directive, back, action_on, action}
 use Rattle.rk_kernel.specs.Calls.{IsActing, IsCaller}

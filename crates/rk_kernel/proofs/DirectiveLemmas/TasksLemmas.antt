@@ -17,13 +17,14 @@ use Rattle.rk_model.specs.Scheduling.Timers.{cancel}
 use Rattle.rk_model.specs.Scheduling.Priorities.{is_started}
 use Rattle.rk_model.specs.Directives.Outcomes.{arrived}
 use Rattle.rk_model.specs.Directives.Objects.{put_names, live_one}
-use Rattle.rk_model.specs.Directives.Tasks.{has_begun, task_named, dormant_in, prio_refusal, task_create, task_ident, is_dormant, with_started, task_start, with_suspended, task_suspend, task_resume, task_set_priority, without_task, task_delete, task_exit, task_wake_after}
+use Rattle.rk_model.specs.Directives.Objects.{has_begun}
+use Rattle.rk_model.specs.Directives.Tasks.{task_named, dormant_in, prio_refusal, task_create, task_ident, is_dormant, with_started, task_start, with_suspended, task_suspend, task_resume, task_set_priority, without_task, task_delete, task_exit, task_wake_after}
 use Rattle.rk_kernel.specs.Calls.{IsActing, IsCaller}
 use Rattle.rk_kernel.specs.Sound.{IsSound, IsInBounds, IsGentle, is_waiting, is_in_call}
 use Rattle.rk_model.proofs.IndexLemmas.{nth-with_other, length-with_nth, All-with_nth}
 use Rattle.rk_kernel.proofs.ThreadBoundsLemmas.{bounds_at, none_bounds, blank_bounds, arrived_bounds}
 use Rattle.rk_kernel.proofs.TimerLemmas.{timed_sound, timed_kept, keeps_same}
-use Rattle.rk_kernel.proofs.NamesAgreeLemmas.{task_lives, first_free, named_made, named_removed}
+use Rattle.rk_kernel.proofs.NamesAgreeLemmas.{first_free, named_made, named_removed}
 use Rattle.rk_kernel.proofs.GentleChangeLemmas.{gentle_same, gentle_put, gentle_unarmed, gentle_cancel, cancelled, Stays, stays_put, stays_apart}
 use Rattle.rk_kernel.proofs.OutcomeLemmas.{IsFair, gentle_limited, stays_same, fair_refused, fair_done, fair_waiting, fair_gone, fair_found, fair_create, fair_ident, fair_if}
 use Rattle.rk_model.proofs.BooleanLemmas.{and_back, equal_test}
@@ -32,25 +33,23 @@ lives_by : (k : Plain) (v u : ℕ) (b : Bool) → has_begun (thread_at k v).life
 lives_by k v u true e is = let same : v ≡ u = cc in ap (λ w. has_begun (thread_at k w).life) (sym same) ∙ e
 lives_by k v u false e is = let no : ⊥ = cc in absurd no
 
-lives_found : (k : Plain) (o : Option ℕ) (u : ℕ) → IsSound k → live_one k Task o ≡ Some u → has_begun (thread_at k u).life ≡ true
-lives_found k None u sound is = let no : ⊥ = cc in absurd no
-lives_found k (Some v) u sound is =
-    let same = task_lives k.table k.threads v sound.named in
-    lives_by k v u (has_begun (thread_at k v).life) refl (ap (λ b. cond b (Some v) None) (sym same) ∙ is)
+lives_found : (k : Plain) (o : Option ℕ) (u : ℕ) → live_one k Task o ≡ Some u → has_begun (thread_at k u).life ≡ true
+lives_found k None u is = let no : ⊥ = cc in absurd no
+lives_found k (Some v) u is = lives_by k v u (has_begun (thread_at k v).life) refl is
 
-lives_or : (k : Plain) (t u : ℕ) (o : Option ℕ) (b : Bool) → IsSound k → has_begun (thread_at k t).life ≡ true → cond b (Some t) (live_one k Task o) ≡ Some u → has_begun (thread_at k u).life ≡ true
-lives_or k t u o true sound live is = let same : t ≡ u = cc in ap (λ w. has_begun (thread_at k w).life) (sym same) ∙ live
-lives_or k t u o false sound live is = lives_found k o u sound is
+lives_or : (k : Plain) (t u : ℕ) (o : Option ℕ) (b : Bool) → has_begun (thread_at k t).life ≡ true → cond b (Some t) (live_one k Task o) ≡ Some u → has_begun (thread_at k u).life ≡ true
+lives_or k t u o true live is = let same : t ≡ u = cc in ap (λ w. has_begun (thread_at k w).life) (sym same) ∙ live
+lives_or k t u o false live is = lives_found k o u is
 
 -- a task that a live caller asks for lives
-pub named_lives : (k : Plain) (t : ℕ) (id : Target) (u : ℕ) → IsSound k → has_begun (thread_at k t).life ≡ true → task_named k t id ≡ Some u → has_begun (thread_at k u).life ≡ true
-named_lives k t (Var var) u sound live is = lives_or k t u _ _ sound live is
-named_lives k t Own u sound live is = let same : t ≡ u = cc in ap (λ w. has_begun (thread_at k w).life) (sym same) ∙ live
-named_lives k t (Given bits) u sound live is = lives_or k t u _ _ sound live is
+pub named_lives : (k : Plain) (t : ℕ) (id : Target) (u : ℕ) → has_begun (thread_at k t).life ≡ true → task_named k t id ≡ Some u → has_begun (thread_at k u).life ≡ true
+named_lives k t (Var var) u live is = lives_or k t u _ _ live is
+named_lives k t Own u live is = let same : t ≡ u = cc in ap (λ w. has_begun (thread_at k w).life) (sym same) ∙ live
+named_lives k t (Given bits) u live is = lives_or k t u _ _ live is
 
 -- the same of a caller
 found_lives : (k : Plain) (t : ℕ) (id : Target) (u : ℕ) → IsCaller k t → task_named k t id ≡ Some u → has_begun (thread_at k u).life ≡ true
-found_lives k t id u caller is = named_lives k t id u caller.acts.sound (ap has_begun caller.acts.started) is
+found_lives k t id u caller is = named_lives k t id u (ap has_begun caller.acts.started) is
 
 -- who lives isn't where no task does
 live_apart : (k : Plain) (t u : ℕ) → has_begun (thread_at k t).life ≡ true → has_begun (thread_at k u).life ≡ false → t ≢ u

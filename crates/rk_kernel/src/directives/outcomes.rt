@@ -1,21 +1,23 @@
 //! What the outcomes of directives share: how a caller goes on, and how a wait begins and ends.
 
-ghost use Rattle.std.specs.Prelude.{◌≡◌, ◌≤◌, ◌<◌, ℕ, length, None};
+ghost use Rattle.std.specs.Prelude.{◌≡◌, ◌≤◌, ◌<◌, length, None, true};
 ghost use Rattle.std.specs.List.{slice_index_or};
 ghost use Rattle.rk_model.specs.declared.entry.Answer.TheVariants.{Done};
 ghost use Rattle.rk_model.specs.declared.status.Status.TheVariants.{Successful};
 ghost use Rattle.rk_model.specs.Limits.{AreRunnable};
-ghost use Rattle.rk_model.specs.State.{thread_at};
+ghost use Rattle.rk_model.specs.declared.scenario.Scenario.{Scenario as ScenarioView};
+ghost use Rattle.rk_model.specs.Directives.Objects.{has_begun};
 ghost use Rattle.rk_model.specs.Directives.Lines.{result_var};
 ghost use Rattle.rk_model.specs.Directives.Outcomes.{begin_wait, begin_limited, end_wait, stored as stored_in, go_on, concluded, status_of, out_of, last_of};
-ghost use Rattle.rk_kernel.specs.Calls.{IsActing};
-ghost use Rattle.rk_parts.specs.Pieces.{plain_of};
-ghost use Rattle.rk_parts.specs.Pinned.{stored};
+ghost use Rattle.rk_kernel.specs.Does.{Becomes, goes_on_after};
+ghost use Rattle.rk_parts.specs.Joined.{thread_lent, timers_lent};
 
-use rk_model::{Answer, Armer, Op, Reply, Status, Thread, ThreadIx, Wait};
+use rk_model::{Answer, Armer, Op, Reply, Scenario, Status, Thread, ThreadIx, Wait};
 use rk_parts::arrival::arrive;
-use rk_parts::core_state::Core;
-use rk_parts::timers::{arm_timer, cancel_timer};
+use rk_parts::lent::{put, thread_of};
+use rk_parts::parts::ClusterPart;
+use rk_parts::ticks::present;
+use rk_parts::timers::{arm, cancel};
 
 /// The answer of a directive that is done with an out number.
 pub(crate) fn done(out: u32) -> Answer
@@ -61,18 +63,18 @@ fn store(vars: [u32; 8], var: Option<u8>, value: u32) -> [u32; 8]
 
 /// Stores an out number in the result variable of the caller's line, and moves the caller on to its
 /// next line.
-fn go_on(core: &mut Core, caller: ThreadIx, out: u32)
-    requires line { (thread_at (plain_of core.old) caller).line ≤ 1001 }
-    requires bodies { AreRunnable core.old.scenario.bodies }
-    ensures next { plain_of core.new ≡ go_on (plain_of core.old) caller out }
-    ensures kept { stored core.new ≡ stored core.old }
+fn go_on(scenario: &Scenario, clusters: &mut [ClusterPart], caller: ThreadIx, out: u32)
+    requires lives { has_begun (thread_lent clusters.old caller).life ≡ true }
+    requires line { (thread_lent clusters.old caller).line ≤ 1001 }
+    requires bodies { AreRunnable scenario.now.bodies }
+    ensures { Becomes scenario.now (λ k. go_on k caller out) clusters.old clusters.new }
 {
-    let thread = core.threads.get(caller);
-    let var = result_var(core.scenario.op_at(thread.body, thread.line));
+    let thread = thread_of(clusters, caller);
+    let var = result_var(scenario.op_at(thread.body, thread.line));
     let vars = store(thread.vars, var, out);
     let told = Thread { vars, ..thread };
-    let moved = arrive(&core.scenario, told, told.line + 1);
-    core.threads.put(caller, moved);
+    let moved = arrive(scenario, told, told.line + 1);
+    put(clusters, caller, moved);
 }
 
 /// A reply without an out number.
@@ -95,21 +97,26 @@ pub(crate) fn last_of(answer: &Answer) -> Option<ThreadIx>
 
 /// What follows an answer: the caller stores the out number and goes on, unless it waits or has no
 /// next line. Gives the status and the out number.
-pub(crate) fn conclude(core: &mut Core, caller: ThreadIx, answer: &Answer) -> Reply
-    requires line { (thread_at (plain_of core.old) caller).line ≤ 1001 }
-    requires bodies { AreRunnable core.old.scenario.bodies }
-    ensures next { plain_of core.new ≡ concluded answer.now (plain_of core.old) caller }
+pub(crate) fn conclude(
+    scenario: &Scenario,
+    clusters: &mut [ClusterPart],
+    caller: ThreadIx,
+    answer: &Answer,
+) -> Reply
+    requires lives { goes_on_after answer.now ≡ true → has_begun (thread_lent clusters.old caller).life ≡ true }
+    requires line { (thread_lent clusters.old caller).line ≤ 1001 }
+    requires bodies { AreRunnable scenario.now.bodies }
+    ensures next { Becomes scenario.now (λ k. concluded answer.now k caller) clusters.old clusters.new }
     ensures status { result.status ≡ status_of answer.now }
     ensures out { result.out ≡ out_of answer.now }
-    ensures kept { stored core.new ≡ stored core.old }
 {
     match answer {
         Answer::Refused(status) => {
-            go_on(core, caller, 0);
+            go_on(scenario, clusters, caller, 0);
             bare(*status)
         }
         Answer::Done(status, out, _) => {
-            go_on(core, caller, *out);
+            go_on(scenario, clusters, caller, *out);
             Reply {
                 status: *status,
                 out: *out,
@@ -121,44 +128,42 @@ pub(crate) fn conclude(core: &mut Core, caller: ThreadIx, answer: &Answer) -> Re
 }
 
 /// Lets the caller begin to wait.
-fn begin_wait(core: &mut Core, caller: ThreadIx, wait: Wait)
-    ensures next { plain_of core.new ≡ begin_wait (plain_of core.old) caller wait }
-    ensures kept { stored core.new ≡ stored core.old }
+fn begin_wait(clusters: &mut [ClusterPart], caller: ThreadIx, wait: Wait)
+    requires { has_begun (thread_lent clusters.old caller).life ≡ true }
+    ensures { (s : ScenarioView) → Becomes s (λ k. begin_wait k caller wait) clusters.old clusters.new }
 {
-    let thread = core.threads.get(caller);
+    let thread = thread_of(clusters, caller);
     let waiting = Thread {
         wait: Some(wait),
         ..thread
     };
-    core.threads.put(caller, waiting);
+    put(clusters, caller, waiting);
 }
 
 /// Lets the caller begin to wait with a limit of so many ticks, or with 0 without a limit.
-pub(crate) fn begin_limited(core: &mut Core, caller: ThreadIx, wait: Wait, ticks: u32)
-    requires { IsActing (plain_of core.old) caller }
-    ensures next { plain_of core.new ≡ begin_limited (plain_of core.old) caller wait ticks }
-    ensures kept { stored core.new ≡ stored core.old }
+pub(crate) fn begin_limited(clusters: &mut [ClusterPart], caller: ThreadIx, wait: Wait, ticks: u32)
+    requires lives { has_begun (thread_lent clusters.old caller).life ≡ true }
+    requires room { length (timers_lent clusters.old caller) < 64 }
+    ensures { (s : ScenarioView) → Becomes s (λ k. begin_limited k caller wait ticks) clusters.old clusters.new }
 {
-    let home = core.threads.get(caller).home;
-    let due = u64::from(core.present) + u64::from(ticks);
-    begin_wait(core, caller, wait);
+    let due = u64::from(present(clusters)) + u64::from(ticks);
     if ticks != 0 {
-        arm_timer(core, home, Armer::Thread(caller), due);
+        arm(clusters, caller, Armer::Thread(caller), due);
     }
+    begin_wait(clusters, caller, wait);
 }
 
 /// Ends the wait of a thread with a reply, and cancels its timer.
-pub(crate) fn end_wait(core: &mut Core, thread: ThreadIx, reply: Reply)
-    requires { (thread_at (plain_of core.old) thread).home < length core.old.clusters }
-    ensures next { plain_of core.new ≡ end_wait (plain_of core.old) thread reply }
-    ensures kept { stored core.new ≡ stored core.old }
+pub(crate) fn end_wait(clusters: &mut [ClusterPart], thread: ThreadIx, reply: Reply)
+    requires { has_begun (thread_lent clusters.old thread).life ≡ true }
+    ensures { (s : ScenarioView) → Becomes s (λ k. end_wait k thread reply) clusters.old clusters.new }
 {
-    let waiting = core.threads.get(thread);
-    cancel_timer(core, waiting.home, Armer::Thread(thread));
+    cancel(clusters, thread, Armer::Thread(thread));
+    let waiting = thread_of(clusters, thread);
     let woken = Thread {
         wait: None,
         finished: Some(reply),
         ..waiting
     };
-    core.threads.put(thread, woken);
+    put(clusters, thread, woken);
 }

@@ -1,27 +1,29 @@
 //! The directives of the task manager.
 
-ghost use Rattle.std.specs.Prelude.{◌≡◌, ◌<◌, ℕ, length, true};
+ghost use Rattle.std.specs.Prelude.{◌≡◌, ◌<◌, IfSome, IsSome, length, true};
 ghost use Rattle.rk_model.specs.declared.ids.Class.TheVariants.{Task};
-ghost use Rattle.rk_model.specs.State.{no_thread, thread_at, put_thread};
-ghost use Rattle.rk_model.specs.Directives.Objects.{is_live, object_of};
-ghost use Rattle.rk_model.specs.Directives.Tasks.{has_begun, task_of, task_named, dormant_in, prio_refusal, task_create, task_ident, is_dormant, with_started, task_start, with_suspended, task_suspend, task_resume, with_base, task_set_priority, without_task, task_delete, task_exit, task_wake_after};
+ghost use Rattle.rk_model.specs.declared.scenario.Scenario.{Scenario as ScenarioView};
+ghost use Rattle.rk_model.specs.State.{Plain};
+ghost use Rattle.rk_model.specs.Directives.Objects.{has_begun, object_of};
+ghost use Rattle.rk_model.specs.Directives.Tasks.{task_of, task_named, dormant_in, prio_refusal, task_create, task_ident, is_dormant, with_started, task_start, with_suspended, task_suspend, task_resume, with_base, task_set_priority, without_task, task_delete, task_exit, task_wake_after};
 ghost use Rattle.rk_model.specs.Limits.{AreRunnable};
-ghost use Rattle.rk_kernel.specs.Calls.{IsActing};
-ghost use Rattle.rk_kernel.specs.Does.{Does};
+ghost use Rattle.rk_kernel.specs.Does.{Becomes, BecomesWide, Does, DoesWide, Tells, with_table};
+ghost use Rattle.rk_parts.specs.Joined.{lent, thread_lent, threads_of, timers_lent};
+ghost use Rattle.rk_parts.specs.Lent.{number_in};
 ghost use Rattle.rk_parts.specs.NamesAgree.{AreNamed};
-ghost use Rattle.rk_parts.specs.Pieces.{plain_of};
-ghost use Rattle.rk_parts.specs.Pinned.{stored};
 
 use crate::directives::objects::{create, ident, remove};
 use crate::directives::outcomes::{begin_limited, done, value_in};
 use rk_model::limits::LEAST_URGENT;
 use rk_model::{
-    Answer, Armer, Class, Id, Life, Name, Prio, Status, Target, Thread, ThreadIx, Wait,
+    Answer, Armer, Class, Id, Life, Name, Prio, Scenario, Status, Target, Thread, ThreadIx, Wait,
 };
 use rk_parts::arrival::arrive;
-use rk_parts::core_state::Core;
+use rk_parts::lent::{make, put, remove as remove_thread, thread_of};
+use rk_parts::parts::ClusterPart;
 use rk_parts::standing::prio_at_home;
-use rk_parts::timers::cancel_timer;
+use rk_parts::table::Table;
+use rk_parts::timers::cancel;
 
 /// Whether a life has begun.
 fn has_begun(life: Life) -> bool
@@ -31,14 +33,13 @@ fn has_begun(life: Life) -> bool
 }
 
 /// The live task whose id these bits are; `None` exactly where they are the id of no live task.
-#[tactic(auto, using(crate::proofs::NamesAgreeLemmas::task_lives))]
-fn live_task(core: &Core, bits: u32) -> Option<ThreadIx>
-    requires { AreNamed core.now.table core.now.threads.places }
-    ensures { result ≡ object_of (plain_of core.now) Task bits }
+fn live_task(clusters: &[ClusterPart], bits: u32) -> Option<ThreadIx>
+    ensures found { result ≡ object_of (lent clusters.now) Task bits }
+    ensures lives { IfSome result (λ u. has_begun (thread_lent clusters.now u).life ≡ true) }
 {
     let index = Id { bits }.index_in(Class::Task)?;
     let task = ThreadIx::new(index as u8);
-    if has_begun(core.threads.get(task).life) {
+    if has_begun(thread_of(clusters, task).life) {
         Some(task)
     } else {
         None
@@ -46,26 +47,28 @@ fn live_task(core: &Core, bits: u32) -> Option<ThreadIx>
 }
 
 /// The task that a caller asks for by these bits; `None` exactly where they are no task's id.
-fn task_of(core: &Core, caller: ThreadIx, bits: u32) -> Option<ThreadIx>
-    requires { AreNamed core.now.table core.now.threads.places }
-    ensures { result ≡ task_of (plain_of core.now) caller bits }
+fn task_of(clusters: &[ClusterPart], caller: ThreadIx, bits: u32) -> Option<ThreadIx>
+    requires { has_begun (thread_lent clusters.now caller).life ≡ true }
+    ensures found { result ≡ task_of (lent clusters.now) caller bits }
+    ensures lives { IfSome result (λ u. has_begun (thread_lent clusters.now u).life ≡ true) }
 {
     if bits == 0 {
         Some(caller)
     } else {
-        live_task(core, bits)
+        live_task(clusters, bits)
     }
 }
 
 /// The task that a caller asks for; `None` exactly where the id is unknown.
-fn task_named(core: &Core, caller: ThreadIx, id: Target) -> Option<ThreadIx>
-    requires { AreNamed core.now.table core.now.threads.places }
-    ensures { result ≡ task_named (plain_of core.now) caller id }
+fn task_named(clusters: &[ClusterPart], caller: ThreadIx, id: Target) -> Option<ThreadIx>
+    requires { has_begun (thread_lent clusters.now caller).life ≡ true }
+    ensures found { result ≡ task_named (lent clusters.now) caller id }
+    ensures lives { IfSome result (λ u. has_begun (thread_lent clusters.now u).life ≡ true) }
 {
     match id {
         Target::Own => Some(caller),
-        Target::Given(bits) => task_of(core, caller, bits),
-        Target::Var(var) => task_of(core, caller, value_in(core.threads.get(caller), var)),
+        Target::Given(bits) => task_of(clusters, caller, bits),
+        Target::Var(var) => task_of(clusters, caller, value_in(thread_of(clusters, caller), var)),
     }
 }
 
@@ -95,15 +98,24 @@ fn prio_refusal(prio: u32) -> Option<Status>
 /// `task.create` (`rtems_task_create`): makes a dormant task of the caller's home, and answers its
 /// id. It refuses with `INVALID_NAME` where the name is 0, with `INVALID_PRIORITY` where the
 /// priority isn't from 1 to 255, and with `TOO_MANY` where 64 tasks live.
-pub(crate) fn task_create(core: &mut Core, caller: ThreadIx, name: Name, prio: u32) -> Answer
-    ensures { Does (task_create (plain_of core.old) caller name.bits prio) result core.old core.new }
+pub(crate) fn task_create(
+    clusters: &mut [ClusterPart],
+    names: &mut Table,
+    caller: ThreadIx,
+    name: Name,
+    prio: u32,
+) -> Answer
+    requires lives { has_begun (thread_lent clusters.old caller).life ≡ true }
+    requires lent { IsSome (number_in clusters.old (thread_lent clusters.old caller).home) }
+    requires named { AreNamed names.old (threads_of clusters.old) }
+    ensures { (s : ScenarioView) → DoesWide s (λ k. task_create k caller name.bits prio) result clusters.old names.old clusters.new names.new }
 {
-    let home = core.threads.get(caller).home;
-    match create(core, Class::Task, name, prio_refusal(prio)) {
+    let home = thread_of(clusters, caller).home;
+    match create(names, Class::Task, name, prio_refusal(prio)) {
         Err(status) => Answer::Refused(status),
         Ok(index) => {
-            let made = dormant_in(home, Prio::new(prio as u8));
-            core.threads.put(ThreadIx::new(index as u8), made);
+            let task = dormant_in(home, Prio::new(prio as u8));
+            make(clusters, ThreadIx::new(index as u8), task);
             done(Id::of(Class::Task, index).bits)
         }
     }
@@ -111,10 +123,10 @@ pub(crate) fn task_create(core: &mut Core, caller: ThreadIx, name: Name, prio: u
 
 /// `task.ident` (`rtems_task_ident`): answers the id of the task of least index that has the name. It
 /// refuses with `INVALID_NAME` where there is no such task.
-pub(crate) fn task_ident(core: &mut Core, name: Name) -> Answer
-    ensures { Does (task_ident (plain_of core.old) name.bits) result core.old core.new }
+pub(crate) fn task_ident(names: &Table, name: Name) -> Answer
+    ensures { (k : Plain) → Tells (task_ident (with_table k names.now) name.bits) result (with_table k names.now) }
 {
-    ident(core, Class::Task, name)
+    ident(names, Class::Task, name)
 }
 
 /// Whether a task is created and not started yet.
@@ -125,33 +137,39 @@ fn is_dormant(life: Life) -> bool
 }
 
 /// Starts a task at the first line of a body.
-fn with_started(core: &mut Core, task: ThreadIx, body: u8)
-    requires { AreRunnable core.old.scenario.bodies }
-    ensures next { plain_of core.new ≡ with_started (plain_of core.old) task body }
-    ensures kept { stored core.new ≡ stored core.old }
+fn with_started(scenario: &Scenario, clusters: &mut [ClusterPart], task: ThreadIx, body: u8)
+    requires lives { has_begun (thread_lent clusters.old task).life ≡ true }
+    requires bodies { AreRunnable scenario.now.bodies }
+    ensures { Becomes scenario.now (λ k. with_started k task body) clusters.old clusters.new }
 {
-    let thread = core.threads.get(task);
+    let thread = thread_of(clusters, task);
     let begun = Thread {
         life: Life::Started,
         body,
         ..thread
     };
-    let arrived = arrive(&core.scenario, begun, 1);
-    core.threads.put(task, arrived);
+    let arrived = arrive(scenario, begun, 1);
+    put(clusters, task, arrived);
 }
 
 /// `task.start` (`rtems_task_start`): starts a dormant task at the first line of a body. It refuses
 /// with `INVALID_ID` where the task is unknown, and with `INCORRECT_STATE` where it isn't dormant.
-pub(crate) fn task_start(core: &mut Core, caller: ThreadIx, id: Target, body: u8) -> Answer
-    requires bodies { AreRunnable core.old.scenario.bodies }
-    requires named { AreNamed core.old.table core.old.threads.places }
-    ensures { Does (task_start (plain_of core.old) caller id body) result core.old core.new }
+pub(crate) fn task_start(
+    scenario: &Scenario,
+    clusters: &mut [ClusterPart],
+    caller: ThreadIx,
+    id: Target,
+    body: u8,
+) -> Answer
+    requires lives { has_begun (thread_lent clusters.old caller).life ≡ true }
+    requires bodies { AreRunnable scenario.now.bodies }
+    ensures { Does scenario.now (λ k. task_start k caller id body) result clusters.old clusters.new }
 {
-    match task_named(core, caller, id) {
+    match task_named(clusters, caller, id) {
         None => Answer::Refused(Status::InvalidId),
         Some(task) => {
-            if is_dormant(core.threads.get(task).life) {
-                with_started(core, task, body);
+            if is_dormant(thread_of(clusters, task).life) {
+                with_started(scenario, clusters, task, body);
                 done(0)
             } else {
                 Answer::Refused(Status::IncorrectState)
@@ -161,31 +179,31 @@ pub(crate) fn task_start(core: &mut Core, caller: ThreadIx, id: Target, body: u8
 }
 
 /// Says of a task whether it is suspended from now on.
-fn with_suspended(core: &mut Core, task: ThreadIx, suspended: bool)
-    ensures next { plain_of core.new ≡ with_suspended (plain_of core.old) task suspended }
-    ensures kept { stored core.new ≡ stored core.old }
+fn with_suspended(clusters: &mut [ClusterPart], task: ThreadIx, suspended: bool)
+    requires { has_begun (thread_lent clusters.old task).life ≡ true }
+    ensures { (s : ScenarioView) → Becomes s (λ k. with_suspended k task suspended) clusters.old clusters.new }
 {
-    let thread = core.threads.get(task);
+    let thread = thread_of(clusters, task);
     let changed = Thread {
         suspended,
         ..thread
     };
-    core.threads.put(task, changed);
+    put(clusters, task, changed);
 }
 
 /// `task.suspend` (`rtems_task_suspend`): suspends a task, whose wait and timer go on. It refuses
 /// with `INVALID_ID` where the task is unknown, and with `ALREADY_SUSPENDED` where it is suspended.
-pub(crate) fn task_suspend(core: &mut Core, caller: ThreadIx, id: Target) -> Answer
-    requires { AreNamed core.old.table core.old.threads.places }
-    ensures { Does (task_suspend (plain_of core.old) caller id) result core.old core.new }
+pub(crate) fn task_suspend(clusters: &mut [ClusterPart], caller: ThreadIx, id: Target) -> Answer
+    requires { has_begun (thread_lent clusters.old caller).life ≡ true }
+    ensures { (s : ScenarioView) → Does s (λ k. task_suspend k caller id) result clusters.old clusters.new }
 {
-    match task_named(core, caller, id) {
+    match task_named(clusters, caller, id) {
         None => Answer::Refused(Status::InvalidId),
         Some(task) => {
-            if core.threads.get(task).suspended {
+            if thread_of(clusters, task).suspended {
                 Answer::Refused(Status::AlreadySuspended)
             } else {
-                with_suspended(core, task, true);
+                with_suspended(clusters, task, true);
                 done(0)
             }
         }
@@ -194,15 +212,15 @@ pub(crate) fn task_suspend(core: &mut Core, caller: ThreadIx, id: Target) -> Ans
 
 /// `task.resume` (`rtems_task_resume`): lets a suspended task go on. It refuses with `INVALID_ID`
 /// where the task is unknown, and with `INCORRECT_STATE` where it isn't suspended.
-pub(crate) fn task_resume(core: &mut Core, caller: ThreadIx, id: Target) -> Answer
-    requires { AreNamed core.old.table core.old.threads.places }
-    ensures { Does (task_resume (plain_of core.old) caller id) result core.old core.new }
+pub(crate) fn task_resume(clusters: &mut [ClusterPart], caller: ThreadIx, id: Target) -> Answer
+    requires { has_begun (thread_lent clusters.old caller).life ≡ true }
+    ensures { (s : ScenarioView) → Does s (λ k. task_resume k caller id) result clusters.old clusters.new }
 {
-    match task_named(core, caller, id) {
+    match task_named(clusters, caller, id) {
         None => Answer::Refused(Status::InvalidId),
         Some(task) => {
-            if core.threads.get(task).suspended {
-                with_suspended(core, task, false);
+            if thread_of(clusters, task).suspended {
+                with_suspended(clusters, task, false);
                 done(0)
             } else {
                 Answer::Refused(Status::IncorrectState)
@@ -212,61 +230,70 @@ pub(crate) fn task_resume(core: &mut Core, caller: ThreadIx, id: Target) -> Answ
 }
 
 /// Sets the base priority of a task.
-fn with_base(core: &mut Core, task: ThreadIx, base: Prio)
-    ensures next { plain_of core.new ≡ with_base (plain_of core.old) task base }
-    ensures kept { stored core.new ≡ stored core.old }
+fn with_base(clusters: &mut [ClusterPart], task: ThreadIx, base: Prio)
+    requires { has_begun (thread_lent clusters.old task).life ≡ true }
+    ensures { (s : ScenarioView) → Becomes s (λ k. with_base k task base) clusters.old clusters.new }
 {
-    let thread = core.threads.get(task);
-    core.threads.put(task, Thread { base, ..thread });
+    let thread = thread_of(clusters, task);
+    put(clusters, task, Thread { base, ..thread });
 }
 
 /// `task.set_priority` (`rtems_task_set_priority`): sets the base priority of a task, which then
 /// goes to the end of its ready queue, and answers the priority that it had in its home; with 0 it
 /// only answers that. It refuses with `INVALID_ID` where the task is unknown, and with
 /// `INVALID_PRIORITY` where the priority is above 255.
-pub(crate) fn task_set_priority(core: &mut Core, caller: ThreadIx, id: Target, prio: u32) -> Answer
-    requires { AreNamed core.old.table core.old.threads.places }
-    ensures { Does (task_set_priority (plain_of core.old) caller id prio) result core.old core.new }
+pub(crate) fn task_set_priority(
+    clusters: &mut [ClusterPart],
+    caller: ThreadIx,
+    id: Target,
+    prio: u32,
+) -> Answer
+    requires { has_begun (thread_lent clusters.old caller).life ≡ true }
+    ensures { (s : ScenarioView) → Does s (λ k. task_set_priority k caller id prio) result clusters.old clusters.new }
 {
-    match task_named(core, caller, id) {
+    match task_named(clusters, caller, id) {
         None => Answer::Refused(Status::InvalidId),
         Some(task) => {
             if u32::from(LEAST_URGENT) < prio {
                 return Answer::Refused(Status::InvalidPriority);
             }
-            let before = u32::from(prio_at_home(core, task).level());
+            let before = u32::from(prio_at_home(clusters, task).level());
             if prio == 0 {
                 return done(before);
             }
-            with_base(core, task, Prio::new(prio as u8));
+            with_base(clusters, task, Prio::new(prio as u8));
             Answer::Done(Status::Successful, before, Some(task))
         }
     }
 }
 
 /// Ends the life of a task: its timer is cancelled, its index is free, and nothing is left of it.
-fn without_task(core: &mut Core, task: ThreadIx)
-    requires home { (thread_at (plain_of core.old) task).home < length core.old.clusters }
-    requires lives { is_live (plain_of core.old) Task task ≡ true }
-    ensures next { plain_of core.new ≡ without_task (plain_of core.old) task }
-    ensures kept { stored core.new ≡ stored core.old }
+fn without_task(clusters: &mut [ClusterPart], names: &mut Table, task: ThreadIx)
+    requires lives { has_begun (thread_lent clusters.old task).life ≡ true }
+    requires named { AreNamed names.old (threads_of clusters.old) }
+    ensures { (s : ScenarioView) → BecomesWide s (λ k. without_task k task) clusters.old names.old clusters.new names.new }
 {
-    let home = core.threads.get(task).home;
-    cancel_timer(core, home, Armer::Thread(task));
-    core.threads.put(task, Thread::absent());
-    remove(core, Class::Task, u16::from(task.at()));
+    cancel(clusters, task, Armer::Thread(task));
+    remove_thread(clusters, task);
+    remove(names, Class::Task, u16::from(task.at()));
 }
 
 /// `task.delete` (`rtems_task_delete`): ends the life of a task; a caller that deletes itself doesn't
 /// go on. It refuses with `INVALID_ID` where the task is unknown.
-pub(crate) fn task_delete(core: &mut Core, caller: ThreadIx, id: Target) -> Answer
-    requires { IsActing (plain_of core.old) caller }
-    ensures { Does (task_delete (plain_of core.old) caller id) result core.old core.new }
+pub(crate) fn task_delete(
+    clusters: &mut [ClusterPart],
+    names: &mut Table,
+    caller: ThreadIx,
+    id: Target,
+) -> Answer
+    requires lives { has_begun (thread_lent clusters.old caller).life ≡ true }
+    requires named { AreNamed names.old (threads_of clusters.old) }
+    ensures { (s : ScenarioView) → DoesWide s (λ k. task_delete k caller id) result clusters.old names.old clusters.new names.new }
 {
-    match task_named(core, caller, id) {
+    match task_named(clusters, caller, id) {
         None => Answer::Refused(Status::InvalidId),
         Some(task) => {
-            without_task(core, task);
+            without_task(clusters, names, task);
             if task == caller {
                 Answer::Gone(Status::Successful)
             } else {
@@ -277,28 +304,30 @@ pub(crate) fn task_delete(core: &mut Core, caller: ThreadIx, id: Target) -> Answ
 }
 
 /// `task.exit` (`rtems_task_exit`): ends the task.
-pub(crate) fn task_exit(core: &mut Core, caller: ThreadIx) -> Answer
-    ensures { Does (task_exit (plain_of core.old) caller) result core.old core.new }
+pub(crate) fn task_exit(clusters: &mut [ClusterPart], caller: ThreadIx) -> Answer
+    requires { has_begun (thread_lent clusters.old caller).life ≡ true }
+    ensures { (s : ScenarioView) → Does s (λ k. task_exit k caller) result clusters.old clusters.new }
 {
-    let thread = core.threads.get(caller);
+    let thread = thread_of(clusters, caller);
     let ended = Thread {
         life: Life::Ended,
         ..thread
     };
-    core.threads.put(caller, ended);
+    put(clusters, caller, ended);
     Answer::Gone(Status::TaskExitted)
 }
 
 /// `task.wake_after` (`rtems_task_wake_after`): the caller sleeps for so many ticks, and yields
 /// with 0.
-pub(crate) fn task_wake_after(core: &mut Core, caller: ThreadIx, ticks: u32) -> Answer
-    requires { IsActing (plain_of core.old) caller }
-    ensures { Does (task_wake_after (plain_of core.old) caller ticks) result core.old core.new }
+pub(crate) fn task_wake_after(clusters: &mut [ClusterPart], caller: ThreadIx, ticks: u32) -> Answer
+    requires lives { has_begun (thread_lent clusters.old caller).life ≡ true }
+    requires room { length (timers_lent clusters.old caller) < 64 }
+    ensures { (s : ScenarioView) → Does s (λ k. task_wake_after k caller ticks) result clusters.old clusters.new }
 {
     if ticks == 0 {
         Answer::Done(Status::Successful, 0, Some(caller))
     } else {
-        begin_limited(core, caller, Wait::ForTime, ticks);
+        begin_limited(clusters, caller, Wait::ForTime, ticks);
         Answer::Waiting
     }
 }

@@ -1,5 +1,5 @@
 use Rattle.std.proofs.Common.{sym, ap}
-use Rattle.rk_model.specs.Directives.Tasks.{has_begun}
+use Rattle.rk_model.specs.Directives.Objects.{has_begun}
 use Rattle.rk_parts.specs.Pieces.{plain_of}
 use Rattle.rk_kernel.proofs.NamesAgreeLemmas.{live_named}
 use Rattle.rk_kernel.proofs.DirectiveLemmas.TasksLemmas.{named_lives}

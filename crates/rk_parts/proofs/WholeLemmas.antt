@@ -1,0 +1,110 @@
+-- All parts of a running kernel, after a change and after settling.
+use Rattle.std.proofs.Common.{◌≡◌, ℕ, zero, suc, ◌+◌, ◌<◌, ◌≤◌, List, [], ◌∷◌, ◌==◌, Option, Some, None, length, map, replicate, arith, refl, sym, ap, ◌∙◌, get_or, subst}
+use Rattle.std.proofs.lemmas.List.{length-map}
+use Rattle.rk_model.specs.declared.scenario.Scenario.{Scenario}
+use Rattle.rk_model.specs.State.{Plain}
+use Rattle.rk_model.specs.Scheduling.Settling.{settle}
+use Rattle.rk_parts.specs.declared.parts.ClusterPart.{ClusterPart}
+use Rattle.rk_parts.specs.declared.parts.GroupPart.{GroupPart}
+use Rattle.rk_parts.specs.declared.parts.AllParts.{AllParts}
+use Rattle.rk_parts.specs.Joined.{joined, present_of, plain_of}
+use Rattle.rk_parts.specs.Lent.{number_in, AreLaid, layouts, Stored, stored_in, stored}
+use Rattle.rk_parts.specs.Noted.{part_at, AreNoted, LinesHold, settled_part, bare}
+use Rattle.rk_parts.specs.Whole.{ticks_of, ticks_in, AreOnTime, AreWhole}
+use Rattle.rk_parts.proofs.LayoutLemmas.{Lie, lie}
+use Rattle.rk_parts.proofs.LentTimerLemmas.{number_found}
+use Rattle.rk_parts.proofs.SettledPartLemmas.{Settles, same_stored, part_settled, length_settled, layouts_settled, settled_joined, noted_settled}
+
+-- the parts of all clusters of a state are found by their numbers
+pub lent_all : (counts : List ℕ) (parts : List ClusterPart) (c : ℕ) → length parts ≡ 4 → ((c : ℕ) → c < 4 → (part_at parts c).lined.number ≡ c) → AreLaid counts (layouts parts) → length counts ≤ 4 → c < length counts → number_in parts c ≡ Some c
+lent_all counts parts c four numbers laid few known = number_found counts parts c c (lie counts parts laid) (omega (arith, four, few, known)) (numbers c (omega (arith, few, known)))
+
+pub lent_whole : (all : AllParts) (c : ℕ) → AreWhole all → length all.scenario.clusters ≤ 4 → c < length all.scenario.clusters → number_in all.clusters c ≡ Some c
+lent_whole all c whole few known = lent_all all.scenario.clusters all.clusters c whole.four whole.numbers whole.laid few known
+
+-- ---- ticks
+
+ticks_bare : (parts : List ClusterPart) → ticks_of (stored (map bare parts)) ≡ ticks_of (stored parts)
+ticks_bare [] = refl
+ticks_bare (p ∷ ps) = ap (λ ts. p.present ∷ ts) (ticks_bare ps)
+
+ticks_part_settled : (last : List ℕ) (parts : List ClusterPart) → ticks_of (stored (map (settled_part last) parts)) ≡ ticks_of (stored parts)
+ticks_part_settled last [] = refl
+ticks_part_settled last (p ∷ ps) = ap (λ ts. p.present ∷ ts) (ticks_part_settled last ps)
+
+ticks_settled : (last : List ℕ) (mid new : List ClusterPart) → map bare new ≡ map (settled_part last) mid → ticks_of (stored new) ≡ ticks_of (stored mid)
+ticks_settled last mid new done = sym (ticks_bare new) ∙ ap (λ (ps : List ClusterPart). ticks_of (stored ps)) done ∙ ticks_part_settled last mid
+
+-- the first of these ticks
+abbrev first_tick : List ℕ → ℕ
+first_tick [] = 0
+first_tick (t ∷ ts) = t
+
+present_first : (parts : List ClusterPart) → present_of parts ≡ first_tick (ticks_of (stored parts))
+present_first [] = refl
+present_first (p ∷ ps) = refl
+
+-- ---- a change and settling
+
+-- All parts after a change: they are laid as parts of the state, and what they store and what no directive touches is as before.
+pub record Keeps (before mid : AllParts) : Type 0 where
+  pub laid : AreLaid before.scenario.clusters (layouts mid.clusters)
+  pub kept : stored mid.clusters ≡ stored before.clusters
+  pub scenario : mid.scenario ≡ before.scenario
+  pub groups : mid.groups ≡ before.groups
+  pub table : mid.table.present ≡ before.table.present
+
+length_kept : (old new : List ClusterPart) → stored new ≡ stored old → length new ≡ length old
+length_kept old new e = sym (length-map new stored_in) ∙ ap (λ (ss : List Stored). length ss) e ∙ length-map old stored_in
+
+numbers_kept : (before mid : AllParts) → AreWhole before → Keeps before mid → (c : ℕ) → c < 4 → (part_at mid.clusters c).lined.number ≡ c
+numbers_kept before mid whole keeps c low = ap (λ (x : Stored). x.lined.number) (same_stored before.clusters mid.clusters c keeps.kept) ∙ whole.numbers c low
+
+four_kept : (before mid : AllParts) → AreWhole before → Keeps before mid → length mid.clusters ≡ 4
+four_kept before mid whole keeps = length_kept before.clusters mid.clusters keeps.kept ∙ whole.four
+
+-- they are whole after settling,
+pub whole_settled : (before mid : AllParts) (new : List ClusterPart) (last : List ℕ) → AreWhole before → Keeps before mid → map bare new ≡ map (settled_part last) mid.clusters → AreWhole (record mid { clusters = new })
+whole_settled before mid new last whole keeps done =
+    let four = four_kept before mid whole keeps in
+    let ticks : ticks_of (stored new) ≡ ticks_of (stored before.clusters) = ticks_settled last mid.clusters new done ∙ ap (λ (ss : List Stored). ticks_of ss) keeps.kept in
+    let present : present_of new ≡ present_of before.clusters = present_first new ∙ ap first_tick ticks ∙ sym (present_first before.clusters) in
+    record {
+      four = length_settled last mid.clusters new done ∙ four;
+      numbers = λ c low. ap (λ (p : ClusterPart). p.lined.number) (part_settled last mid.clusters new c done (omega (arith, four, low))) ∙ numbers_kept before mid whole keeps c low;
+      laid = subst (λ (s : Scenario). AreLaid s.clusters (layouts new)) (sym keeps.scenario) (subst (AreLaid before.scenario.clusters) (sym (layouts_settled last mid.clusters new done)) keeps.laid);
+      time = record {
+        clusters = ticks ∙ whole.time.clusters ∙ ap (replicate 4) (sym present);
+        groups = ap (λ (gs : List GroupPart). ticks_in gs) keeps.groups ∙ whole.time.groups ∙ ap (replicate 4) (sym present);
+        table = keeps.table ∙ whole.time.table ∙ sym present;
+      };
+    }
+
+settles : (before mid : AllParts) (new : List ClusterPart) (last : List ℕ) → AreWhole before → AreNoted (length before.scenario.clusters) before.clusters → LinesHold (plain_of before) → length before.scenario.clusters ≤ 4 → Keeps before mid → map bare new ≡ map (settled_part last) mid.clusters →
+    Settles before.scenario (plain_of before) before.clusters mid.clusters new last
+settles before mid new last whole noted lines few keeps done = record {
+  laid = whole.laid;
+  laid_after = keeps.laid;
+  lent = λ c known. lent_all before.scenario.clusters mid.clusters c (four_kept before mid whole keeps) (numbers_kept before mid whole keeps) keeps.laid few known;
+  noted = noted;
+  kept = keeps.kept;
+  lines = lines;
+  threads = refl;
+  clusters = refl;
+  done = done;
+}
+
+-- stand for the settled state,
+pub plain_settled : (before mid : AllParts) (new : List ClusterPart) (last : List ℕ) → AreWhole before → AreNoted (length before.scenario.clusters) before.clusters → LinesHold (plain_of before) → length before.scenario.clusters ≤ 4 → Keeps before mid → map bare new ≡ map (settled_part last) mid.clusters →
+    plain_of (record mid { clusters = new }) ≡ settle (plain_of before) (plain_of mid) last
+plain_settled before mid new last whole noted lines few keeps done =
+    let is = settles before mid new last whole noted lines few keeps done in
+    subst (λ (s : Scenario). joined s mid.table.names new mid.groups ≡ settle (plain_of before) (joined s mid.table.names mid.clusters mid.groups) last) (sym keeps.scenario)
+    (settled_joined before.scenario mid.table.names mid.groups (plain_of before) before.clusters mid.clusters new last is)
+
+-- and note how their threads stand.
+pub all_noted_settled : (before mid : AllParts) (new : List ClusterPart) (last : List ℕ) → AreWhole before → AreNoted (length before.scenario.clusters) before.clusters → LinesHold (plain_of before) → length before.scenario.clusters ≤ 4 → Keeps before mid → map bare new ≡ map (settled_part last) mid.clusters →
+    AreNoted (length mid.scenario.clusters) new
+all_noted_settled before mid new last whole noted lines few keeps done =
+    subst (λ (s : Scenario). AreNoted (length s.clusters) new) (sym keeps.scenario)
+    (noted_settled before.scenario (plain_of before) before.clusters mid.clusters new last (settles before mid new last whole noted lines few keeps done))
