@@ -14,9 +14,11 @@ use Rattle.rk_model.specs.Scheduling.Running.{cpu_at, cpu_count, view_of, runnin
 use Rattle.rk_model.specs.Scheduling.Ticks.{charged, ticked, charge_from}
 use Rattle.rk_model.proofs.IndexLemmas.{nth-with_other, nth-with_same, length-with_nth}
 use Rattle.rk_parts.specs.Threads.{own_standing}
-use Rattle.rk_parts.specs.declared.core_state.Core.{Core}
-use Rattle.rk_parts.specs.Pieces.{plain_of}
-use Rattle.rk_parts.specs.Pinned.{stored}
+use Rattle.rk_parts.specs.declared.parts.AllParts.{AllParts}
+use Rattle.rk_parts.specs.Joined.{plain_of, threads_of}
+use Rattle.rk_parts.specs.Lent.{frame}
+use Rattle.rk_parts.specs.Noted.{AreNoted}
+use Rattle.rk_kernel.specs.Does.{untouched}
 use Rattle.rk_kernel.specs.Manned.{RunOnce}
 use Rattle.rk_kernel.proofs.TickLemmas.{spins_alike, charged_steady, length-charge_from}
 
@@ -29,13 +31,13 @@ abbrev charged_by : Plain → ℕ → ℕ → Thread
 charged_by k p t = cond (runs_from k t 0 p) (charged k.scenario (thread_at k t)) (thread_at k t)
 
 -- what is kept while the processors in front of one are gone through
-pub record IsCharged (k : Plain) (p : ℕ) (core old : Core) : Type 0 where
-  pub places : length core.threads.places ≡ length k.threads
-  pub threads : (t : ℕ) → nth no_thread core.threads.places t ≡ charged_by k p t
-  pub rest : plain_of core ≡ (let n : Plain = record k { threads = core.threads.places } in n)
+pub record IsCharged (k : Plain) (p : ℕ) (core old : AllParts) : Type 0 where
+  pub places : length threads_of core.clusters ≡ length k.threads
+  pub threads : (t : ℕ) → nth no_thread threads_of core.clusters t ≡ charged_by k p t
+  pub rest : plain_of core ≡ (let n : Plain = record k { threads = threads_of core.clusters } in n)
   pub kept : stored core ≡ stored old
 
-pub none_charged : (core : Core) → IsCharged (plain_of core) 0 core core
+pub none_charged : (core : AllParts) → IsCharged (plain_of core) 0 core core
 none_charged core = record { places = refl; threads = λ t. refl; rest = refl; kept = refl }
 
 -- the last of some processors
@@ -92,28 +94,28 @@ view_charged k n (Some t) same =
     let spun : spins n t ≡ spins k t = ap (spins_in n) (same t) ∙ spins_alike k n (thread_at k t).wait in
     ap (λ b. cond b (Spins t) (Runs t)) spun
 
-running_charged : (k : Plain) (p : ℕ) (core old : Core) (q : ℕ) → IsCharged k p core old → running (plain_of core) q ≡ running k q
+running_charged : (k : Plain) (p : ℕ) (core old : AllParts) (q : ℕ) → IsCharged k p core old → running (plain_of core) q ≡ running k q
 running_charged k p core old q is =
-    let n : Plain = record k { threads = core.threads.places } in
+    let n : Plain = record k { threads = threads_of core.clusters } in
     ap (λ (m : Plain). running m q) is.rest
     ∙ view_charged k n (cpu_at k q) (λ t. ap (λ (x : Thread). x.wait) (is.threads t) ∙ wait_charged k p t)
 
 -- the thread of one processor more is charged, where the processor runs one
-pub one_charged : (k : Plain) (p u : ℕ) (core next old : Core) (thread : Thread) → RunOnce k → length k.threads ≡ 64 → IsCharged k p core old → Runs u ≡ running (plain_of core) p → 1 ≤ u → u ≤ 64 → thread ≡ charged core.scenario (nth no_thread core.threads.places u) →
-    plain_of next ≡ (let n : Plain = record (plain_of core) { threads = with_nth core.threads.places u thread } in n) → stored next ≡ stored core → IsCharged k (p + 1) next old
+pub one_charged : (k : Plain) (p u : ℕ) (core next old : AllParts) (thread : Thread) → RunOnce k → length k.threads ≡ 64 → IsCharged k p core old → Runs u ≡ running (plain_of core) p → 1 ≤ u → u ≤ 64 → thread ≡ charged core.scenario (nth no_thread threads_of core.clusters u) →
+    plain_of next ≡ (let n : Plain = record (plain_of core) { threads = with_nth threads_of core.clusters u thread } in n) → stored next ≡ stored core → IsCharged k (p + 1) next old
 one_charged k p u core next old thread once size is does low high made put kept =
     let runs : running k p ≡ Runs u = sym (running_charged k p core old p is) ∙ sym does in
-    let places : next.threads.places ≡ with_nth core.threads.places u thread = ap (λ (n : Plain). n.threads) put in
+    let places : threads_of next.clusters ≡ with_nth threads_of core.clusters u thread = ap (λ (n : Plain). n.threads) put in
     let before : runs_from k u 0 p ≡ false = none_before k p u once runs p (omega arith) in
-    let was : nth no_thread core.threads.places u ≡ thread_at k u = is.threads u ∙ ap (λ b. cond b (charged k.scenario (thread_at k u)) (thread_at k u)) before in
+    let was : nth no_thread threads_of core.clusters u ≡ thread_at k u = is.threads u ∙ ap (λ b. cond b (charged k.scenario (thread_at k u)) (thread_at k u)) before in
     let same : core.scenario ≡ k.scenario = ap (λ (n : Plain). n.scenario) is.rest in
-    let value : thread ≡ charged k.scenario (thread_at k u) = made ∙ ap (λ (s : Scenario). charged s (nth no_thread core.threads.places u)) same ∙ ap (charged k.scenario) was in
+    let value : thread ≡ charged k.scenario (thread_at k u) = made ∙ ap (λ (s : Scenario). charged s (nth no_thread threads_of core.clusters u)) same ∙ ap (charged k.scenario) was in
     record {
-      places = ap (λ (ts : List Thread). length ts) places ∙ length-with_nth thread core.threads.places u ∙ is.places;
+      places = ap (λ (ts : List Thread). length ts) places ∙ length-with_nth thread threads_of core.clusters u ∙ is.places;
       threads = λ t. (
           let here : runs_from k t 0 (p + 1) ≡ (runs_from k t 0 p || (u == t)) = runs_to k t p ∙ ap (λ v. runs_from k t 0 p || is_run_of t v) runs in
           ap (λ (ts : List Thread). nth no_thread ts t) places ∙ by t (u == t) refl value places ∙ ap (λ b. cond b (charged k.scenario (thread_at k t)) (thread_at k t)) (sym here));
-      rest = put ∙ ap (λ (n : Plain). (let m : Plain = record n { threads = with_nth core.threads.places u thread } in m)) is.rest ∙ ap (λ (ts : List Thread). (let m : Plain = record k { threads = ts } in m)) (sym places);
+      rest = put ∙ ap (λ (n : Plain). (let m : Plain = record n { threads = with_nth threads_of core.clusters u thread } in m)) is.rest ∙ ap (λ (ts : List Thread). (let m : Plain = record k { threads = ts } in m)) (sym places);
       kept = kept ∙ is.kept;
     }
   where
@@ -121,15 +123,15 @@ one_charged k p u core next old thread once size is does low high made put kept 
     or_true true = refl
     or_true false = refl
 
-    by : (t : ℕ) (b : Bool) → (u == t) ≡ b → thread ≡ charged k.scenario (thread_at k u) → next.threads.places ≡ with_nth core.threads.places u thread → nth no_thread (with_nth core.threads.places u thread) t ≡ cond (runs_from k t 0 p || b) (charged k.scenario (thread_at k t)) (thread_at k t)
+    by : (t : ℕ) (b : Bool) → (u == t) ≡ b → thread ≡ charged k.scenario (thread_at k u) → threads_of next.clusters ≡ with_nth threads_of core.clusters u thread → nth no_thread (with_nth threads_of core.clusters u thread) t ≡ cond (runs_from k t 0 p || b) (charged k.scenario (thread_at k t)) (thread_at k t)
     by t true e value places =
         let same : u ≡ t = grind (arith, nat_tests, e) in
-        ap (nth no_thread (with_nth core.threads.places u thread)) (sym same)
-        ∙ nth-with_same no_thread thread core.threads.places u (omega (arith, low)) (omega (arith, high, is.places, size))
+        ap (nth no_thread (with_nth threads_of core.clusters u thread)) (sym same)
+        ∙ nth-with_same no_thread thread threads_of core.clusters u (omega (arith, low)) (omega (arith, high, is.places, size))
         ∙ value ∙ ap (λ v. charged k.scenario (thread_at k v)) same
         ∙ ap (λ b. cond b (charged k.scenario (thread_at k t)) (thread_at k t)) (sym (or_true (runs_from k t 0 p)))
     by t false e value places =
-        nth-with_other no_thread thread core.threads.places u t (λ q. false≢true (sym e ∙ grind (arith, nat_tests, q)))
+        nth-with_other no_thread thread threads_of core.clusters u t (λ q. false≢true (sym e ∙ grind (arith, nat_tests, q)))
         ∙ is.threads t ∙ ap (λ b. cond b (charged k.scenario (thread_at k t)) (thread_at k t)) (sym (or_end (runs_from k t 0 p)))
 
 not_run : (t : ℕ) (view : View) → ((u : ℕ) → view ≡ Runs u → ⊥) → is_run_of t view ≡ false
@@ -138,7 +140,7 @@ not_run t (Spins u) none = refl
 not_run t (Runs u) none = absurd (none u refl)
 
 -- a processor that runs none changes nothing
-pub none_more_charged : (k : Plain) (p : ℕ) (core old : Core) (view : View) → IsCharged k p core old → view ≡ running (plain_of core) p → ((u : ℕ) → view ≡ Runs u → ⊥) → IsCharged k (p + 1) core old
+pub none_more_charged : (k : Plain) (p : ℕ) (core old : AllParts) (view : View) → IsCharged k p core old → view ≡ running (plain_of core) p → ((u : ℕ) → view ≡ Runs u → ⊥) → IsCharged k (p + 1) core old
 none_more_charged k p core old view is does none = record {
   places = is.places;
   threads = λ t. (
@@ -157,16 +159,16 @@ charge_at k a (x ∷ xs) zero within = let e : a + 0 ≡ a = omega arith in rw e
 charge_at k a (x ∷ xs) (suc i) within = let e : a + suc i ≡ a + 1 + i = omega arith in rw e (charge_at k (a + 1) xs i (omega (arith, within)))
 
 -- when all processors have been gone through, all threads that run are charged
-pub all_charged : (k : Plain) (p : ℕ) (core old : Core) → p ≡ cpu_count k → IsCharged k p core old → plain_of core ≡ (let n : Plain = record k { threads = charge_from k 1 k.threads } in n)
+pub all_charged : (k : Plain) (p : ℕ) (core old : AllParts) → p ≡ cpu_count k → IsCharged k p core old → plain_of core ≡ (let n : Plain = record k { threads = charge_from k 1 k.threads } in n)
 unfolding ticked runs_somewhere
 all_charged k p core old all is =
-    let same : core.threads.places ≡ charge_from k 1 k.threads =
-    ext_get_or no_thread core.threads.places (charge_from k 1 k.threads) (is.places ∙ sym (length-charge_from k 1 k.threads))
+    let same : threads_of core.clusters ≡ charge_from k 1 k.threads =
+    ext_get_or no_thread threads_of core.clusters (charge_from k 1 k.threads) (is.places ∙ sym (length-charge_from k 1 k.threads))
     (λ i h. is.threads (suc i) ∙ ap (λ n. charged_by k n (suc i)) all ∙ sym (let e : 1 + i ≡ suc i = omega arith in charge_at k 1 k.threads i (omega (arith, h, is.places)) ∙ ap (λ t. ticked k t (get_or k.threads i no_thread)) e)) in
     is.rest ∙ ap (λ (ts : List Thread). (let n : Plain = record k { threads = ts } in n)) same
 
 -- a thread that a processor runs hasn't been charged
-pub uncharged : (k : Plain) (p u : ℕ) (core old : Core) → RunOnce k → IsCharged k p core old → Runs u ≡ running (plain_of core) p → nth no_thread core.threads.places u ≡ thread_at k u
+pub uncharged : (k : Plain) (p u : ℕ) (core old : AllParts) → RunOnce k → IsCharged k p core old → Runs u ≡ running (plain_of core) p → nth no_thread threads_of core.clusters u ≡ thread_at k u
 uncharged k p u core old once is does =
     let runs : running k p ≡ Runs u = sym (running_charged k p core old p is) ∙ sym does in
     is.threads u ∙ ap (λ b. cond b (charged k.scenario (thread_at k u)) (thread_at k u)) (none_before k p u once runs p (omega arith))

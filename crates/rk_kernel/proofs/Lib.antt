@@ -10,7 +10,7 @@ pub mod SoundSettlingLemmas
 pub mod CallerLemmas
 pub mod InitNamesLemmas
 pub mod OpeningLemmas
-pub mod PiecesSettledLemmas
+pub mod PartsSettledLemmas
 pub mod TickLemmas
 pub mod ChargeLemmas
 pub mod FiringLemmas

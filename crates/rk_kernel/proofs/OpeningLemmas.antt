@@ -8,16 +8,7 @@ use Rattle.rk_model.specs.declared.scenario.Scenario.{Scenario}
 use Rattle.rk_model.specs.declared.scenario.Init.{Init}
 use Rattle.rk_model.specs.declared.state.Life.TheVariants.{Started}
 use Rattle.rk_model.specs.declared.state.Thread.{Thread}
-use Rattle.rk_parts.specs.declared.core_state.ClusterPart.{ClusterPart}
-use Rattle.rk_parts.specs.Pieces.{cluster_of, clusters_of}
 use Rattle.rk_model.specs.Lists.{nth, with_nth, times}
-use Rattle.rk_cluster.specs.Clusters.{Cluster, empty_cluster}
-use Rattle.rk_model.specs.Scheduling.Settling.{belongs}
-use Rattle.rk_parts.specs.declared.core_state.Core.{Core}
-use Rattle.rk_parts.specs.Pinned.{linings, key_of, AllKeyed, AreNumbered, AllHeld, CanSettle}
-use Rattle.rk_parts.proofs.StandingLemmas.{standings_own}
-use Rattle.rk_parts.proofs.MarkLemmas.{nth_replicate}
-use Rattle.rk_kernel.specs.Made.{made_from}
 use Rattle.rk_model.specs.State.{Plain, ClusterState, no_thread, thread_at}
 use Rattle.rk_model.specs.Scheduling.Priorities.{is_eligible, standings, no_standing}
 use Rattle.rk_model.specs.Scheduling.ReadyQueues.{has_cpu}
@@ -149,60 +140,3 @@ started_more s threads threads' thread init at within few is made set told =
     let more : map (begun s) (take (at + 1) s.inits) ≡ front ++ begun s init ∷ [] =
     ap (map (begun s)) (take_more s.inits at init within) ∙ map-append (begun s) (take at s.inits) (get_or s.inits at init ∷ []) ∙ ap (λ x. front ++ begun s x ∷ []) (sym is) in
     set ∙ with_next threads at thread ∙ ap (λ ts. slice_set ts at thread) told ∙ ap (slice_set (places 64 front) at) made ∙ places-push 64 front (begun s init) at size (omega arith) ∙ ap (places 64) (sym more)
-
--- the processors of the clusters in front of one and its own are at most those of all
-pub first_within : (counts : List ℕ) (i : ℕ) → i < length counts → cpus_in (take i counts) + get_or counts i 0 ≤ cpus_in counts
-first_within [] i within = absurd (omega arith)
-first_within (m ∷ counts) zero within = omega arith
-first_within (m ∷ counts) (suc i) within = omega (arith, first_within counts i (omega arith))
-
-pub first_more : (counts : List ℕ) (i first : ℕ) → i < length counts → first ≡ cpus_in (take i counts) → first + get_or counts i 0 ≡ cpus_in (take (i + 1) counts)
-first_more counts i first within is = rw (add-one, is) (by counts i within) where
-  by : (counts : List ℕ) (i : ℕ) → i < length counts → cpus_in (take i counts) + get_or counts i 0 ≡ cpus_in (take (suc i) counts)
-  by [] i within = absurd (omega arith)
-  by (m ∷ counts) zero within = omega arith
-  by (m ∷ counts) (suc i) within = omega (arith, by counts i (omega arith))
-
--- one cluster more is made
-pub made_more : (counts : List ℕ) (i : ℕ) (parts next : List ClusterPart) (part : ClusterPart) → i < length counts → next ≡ parts ++ part ∷ [] → cluster_of part ≡ free_cluster (get_or counts i 0) → clusters_of parts ≡ map free_cluster (take i counts) → clusters_of next ≡ map free_cluster (take (i + 1) counts)
-made_more counts i parts next part within push is told =
-    let more : take (i + 1) counts ≡ take i counts ++ get_or counts i 0 ∷ [] = take_more counts i 0 within in
-    ap (λ (ps : List ClusterPart). clusters_of ps) push ∙ map-append cluster_of parts (part ∷ []) ∙ (rw (told, is) refl) ∙ sym (ap (map free_cluster) more ∙ map-append free_cluster (take i counts) (get_or counts i 0 ∷ []))
-
--- one cluster more is stored
-pub lined_more : (counts : List ℕ) (at first : ℕ) (parts next : List ClusterPart) (part : ClusterPart) (all : List Cluster) → at < length counts → next ≡ parts ++ part ∷ [] → part.lined ≡ empty_cluster at first (get_or counts at 0) →
-    linings parts ++ made_from at first (drop at counts) ≡ all → linings next ++ made_from (at + 1) (first + get_or counts at 0) (drop (at + 1) counts) ≡ all
-lined_more counts at first parts next part all within more made told =
-    let d = drop_more counts at 0 within in
-    let m : linings (parts ++ part ∷ []) ≡ linings parts ++ part.lined ∷ [] = map_push (λ (p : ClusterPart). p.lined) parts part in
-    rw (more, m, append_assoc, made) (rw d at told)
-
--- clusters that were made are numbered,
-pub numbered_made : (c p : ℕ) (counts : List ℕ) → AreNumbered c p (made_from c p counts)
-numbered_made c p [] = tt
-numbered_made c p (count ∷ counts) =
-    let size : length (empty_cluster c p count).cpus ≡ count = length-replicate count None in
-    (refl, refl, rw size (numbered_made (c + 1) (p + count) counts))
-
--- and their lines have no place
-pub keyed_made : (key : ℕ → ℕ) (c p : ℕ) (counts : List ℕ) → AllKeyed key (made_from c p counts)
-keyed_made key c p [] = tt
-keyed_made key c p (count ∷ counts) = (tt, keyed_made key (c + 1) (p + count) counts)
-
--- nor any thread, where none belongs there
-pub held_free : (n c : ℕ) (counts : List ℕ) → AllHeld (replicate n no_standing) c (map free_cluster counts)
-held_free n c [] = tt
-held_free n c (m ∷ counts) = (λ t. ap (belongs c) (sym (nth_replicate no_standing n t)), held_free n (c + 1) counts)
-
--- no thread stands where there is none
-pub standings_vacant : (s : Scenario) → standings (vacant s) ≡ replicate 64 no_standing
-standings_vacant s = standings_own (vacant s)
-
--- the pieces with the clusters of an opening, and with nobody noted to stand, can settle
-pub can_open : (s : Scenario) (core : Core) → IsWithinLimits s → clusters_of core.clusters ≡ map free_cluster s.clusters → linings core.clusters ≡ made_from 0 0 s.clusters → core.threads.stood ≡ replicate 64 no_standing → CanSettle core
-can_open s core within clusters lined stood = record {
-  few = omega (arith, length-map core.clusters cluster_of, ap (λ (cs : List ClusterState). length cs) clusters, length-map s.clusters free_cluster, within.few_clusters);
-  lines = rw (clusters, stood) (held_free 64 0 s.clusters);
-  keyed = rw lined (keyed_made (key_of core.threads.stood) 0 0 s.clusters);
-  numbered = rw lined (numbered_made 0 0 s.clusters);
-}

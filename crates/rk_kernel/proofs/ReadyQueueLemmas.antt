@@ -1,19 +1,20 @@
 -- The shifts keep in each line exactly the eligible threads of its cluster.
-use Rattle.std.proofs.Common.{◌≡◌, ℕ, zero, suc, ◌+◌, ◌<◌, ◌≤◌, List, ◌++◌, Bool, true, false, cond, not, ◌&&◌, ◌==◌, nat_lt, Some, None, length, ⊎_elim, arith, refl, ap, sym, ◌∙◌}
-use Rattle.std.specs.List.{filter, range_with_len}
+use Rattle.std.proofs.Common.{◌≡◌, ℕ, zero, suc, ◌+◌, ◌<◌, ◌≤◌, List, [], ◌∷◌, ◌++◌, Bool, true, false, cond, not, ◌&&◌, ◌==◌, nat_lt, Some, None, length, ⊎_elim, arith, refl, ap, sym, ◌∙◌}
+use Rattle.std.specs.List.{filter, range_with_len, slice_index_or}
 use Rattle.std.proofs.lemmas.List.{get_or_past}
 use Rattle.std.proofs.lemmas.Bool.{cases_lt, false≢true}
 use Rattle.rk_model.specs.declared.settling.Standing.{Standing}
 use Rattle.rk_model.specs.declared.settling.Shift.{Shift}
 use Rattle.rk_model.specs.declared.settling.Shift.TheVariants.{Stay, Leave, ToEnd, ToFront}
 use Rattle.rk_model.specs.Lists.{has, times}
-use Rattle.rk_model.specs.State.{Plain, no_thread, thread_at}
+use Rattle.rk_model.specs.State.{Plain, ClusterState, no_thread, no_cluster, thread_at, cluster_at}
 use Rattle.rk_model.specs.Scheduling.Priorities.{is_eligible, standing, standings, nth_standing}
 use Rattle.rk_model.specs.Scheduling.Settling.{is_cluster, belongs, is_stay, is_to_end, is_to_front, shift_of, shifts, making, shifted}
 use Rattle.rk_model.proofs.CountLemmas.{times-append, times-filter, has_times, has_none, once_in_range}
 use Rattle.rk_model.proofs.BooleanLemmas.{and_false}
 use Rattle.rk_parts.proofs.StandingLemmas.{standings_say}
-use Rattle.rk_kernel.specs.Sound.{stands, own}
+use Rattle.rk_parts.specs.Noted.{LinesHold}
+use Rattle.rk_kernel.specs.Sound.{stands, own, IsSound, IsClusterSound, AllSound}
 use Rattle.rk_kernel.proofs.CallerLemmas.{stands_eligible}
 
 -- ---- who belongs in the ready queue of a cluster
@@ -58,6 +59,27 @@ has_once false t line once = has_none t line once
 -- a line with exactly the eligible threads of its cluster has exactly those that belong there
 pub line_belongs : (k : Plain) (c : ℕ) (line : List ℕ) → ((t : ℕ) → times t line ≡ times t (own k c)) → (t : ℕ) → has line t ≡ belongs c (nth_standing (standings k) t)
 line_belongs k c line held t = has_once (stands k c t) t line (held t ∙ own_once k c t) ∙ sym (noted_stands k c t)
+
+-- the cluster of a number of a sound state
+sound_from : (k : Plain) (c i : ℕ) (clusters : List ClusterState) → i < length clusters → AllSound k c clusters → IsClusterSound k (c + i) (slice_index_or clusters i no_cluster)
+sound_from k c i [] within sound = absurd (never i within) where
+  never : (i : ℕ) → i < 0 → ⊥
+  never i h = omega (arith, h)
+sound_from k c zero (cluster ∷ clusters) within sound =
+    let e : c + 0 ≡ c = omega arith in
+    rw e sound.0
+sound_from k c (suc i) (cluster ∷ clusters) within sound =
+    let e : c + suc i ≡ c + 1 + i = omega arith in
+    rw e (sound_from k (c + 1) i clusters (omega arith) sound.1)
+
+pub sound_at : (k : Plain) (c : ℕ) → IsSound k → c < length k.clusters → IsClusterSound k c (cluster_at k c)
+sound_at k c sound within =
+    let e : 0 + c ≡ c = omega arith in
+    rw e at (sound_from k 0 c k.clusters within sound.clusters)
+
+-- The ready queues of a sound state have exactly the threads that belong there.
+pub sound_lines : (k : Plain) → IsSound k → LinesHold k
+sound_lines k sound c t within = line_belongs k c (cluster_at k c).line (sound_at k c sound within).line t ∙ ap (belongs c) (standings_say k t)
 
 -- ---- the line after the shifts
 

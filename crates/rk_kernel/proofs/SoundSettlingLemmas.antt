@@ -1,4 +1,4 @@
--- Settling after a gentle change has room, and keeps a state sound.
+-- Settling after a gentle change keeps a state sound.
 use Rattle.std.proofs.Common.{◌≡◌, ℕ, ◌+◌, List, [], ◌∷◌, length, length-append, arith, refl, ap, sym, subst, ◌∙◌}
 use Rattle.std.proofs.lemmas.List.{length-map}
 use Rattle.rk_model.specs.declared.settling.Standing.{Standing}
@@ -10,42 +10,16 @@ use Rattle.rk_model.specs.Scheduling.ReadyQueues.{most_urgent}
 use Rattle.rk_model.specs.Scheduling.Settling.{shifts, shifted, settle}
 use Rattle.rk_model.specs.Scheduling.Running.{all_cpus, cpu_count}
 use Rattle.rk_model.proofs.AssignmentLemmas.{assigned_has, length-assigned}
-use Rattle.rk_parts.specs.declared.core_state.Core.{Core}
-use Rattle.rk_parts.specs.Pieces.{cluster_of, clusters_of, plain_of}
-use Rattle.rk_parts.specs.Pinned.{Stored, stored, key_of, AllKeyed, AreNumbered, AllHeld, CanSettle, IsNoted}
 use Rattle.rk_parts.specs.Settled.{settled_cluster, settled_from}
 use Rattle.rk_parts.proofs.SettlingLemmas.{settle_each}
 use Rattle.rk_kernel.specs.Sound.{stands, own, AllSound, IsSound, KeepsLines, AllTimed, IsGentle}
-use Rattle.rk_kernel.proofs.ReadyQueueLemmas.{line_belongs, line_moved}
+use Rattle.rk_kernel.proofs.ReadyQueueLemmas.{line_moved}
 
 pub length-kept : (olds news : List ClusterState) → KeepsLines olds news → length news ≡ length olds
 length-kept [] [] keeps = refl
 length-kept [] (b ∷ news) keeps = absurd keeps
 length-kept (a ∷ olds) [] keeps = absurd keeps
 length-kept (a ∷ olds) (b ∷ news) keeps = omega (arith, length-kept olds news keeps.2)
-
--- ---- what settling asks
-
-all_held : (k : Plain) (c : ℕ) (olds news : List ClusterState) → AllSound k c olds → KeepsLines olds news → AllHeld (standings k) c news
-all_held k c [] [] sound keeps = tt
-all_held k c [] (b ∷ news) sound keeps = absurd keeps
-all_held k c (a ∷ olds) [] sound keeps = absurd keeps
-all_held k c (a ∷ olds) (b ∷ news) sound keeps =
-    ((λ t. line_belongs k c b.line (λ u. rw keeps.0 (sound.0.line u)) t), all_held k (c + 1) olds news sound.1 keeps.2)
-
--- After a gentle change of a sound state a running kernel can settle.
-pub can_settle : (before after : Core) → IsSound (plain_of before) → IsNoted before → stored after ≡ stored before → IsGentle (plain_of before) (plain_of after) → CanSettle after
-can_settle before after sound noted kept gentle =
-    let k = plain_of before in
-    let olds = clusters_of before.clusters in
-    let news = clusters_of after.clusters in
-    let stood : after.threads.stood ≡ standings k = ap (λ (x : Stored). x.stood) kept ∙ noted.stood in
-    record {
-      few = omega (arith, length-map after.clusters cluster_of, length-kept olds news gentle.lines, sound.few_clusters);
-      lines = subst (λ (xs : List Standing). AllHeld xs 0 news) (sym stood) (all_held k 0 olds news sound.clusters gentle.lines);
-      keyed = subst (λ (x : Stored). AllKeyed (key_of x.stood) x.clusters) (sym kept) noted.keyed;
-      numbered = subst (λ (x : Stored). AreNumbered 0 0 x.clusters) (sym kept) noted.numbered;
-    }
 
 -- ---- the clusters after settling
 

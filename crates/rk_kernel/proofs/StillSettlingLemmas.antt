@@ -12,7 +12,7 @@ use Rattle.rk_model.specs.Scheduling.Priorities.{urgency, standings, nth_standin
 use Rattle.rk_model.specs.Scheduling.ReadyQueues.{has_cpu, kept, filled, assigned, most_urgent}
 use Rattle.rk_model.specs.Scheduling.Settling.{belongs, is_stay, is_to_end, is_to_front, shift_of, shifts, making, shifted, settle}
 use Rattle.rk_model.proofs.CountLemmas.{times-has, has_times}
-use Rattle.rk_parts.specs.Pinned.{key_of}
+use Rattle.rk_parts.specs.Noted.{key_of}
 use Rattle.rk_parts.specs.Settled.{settled_cluster, settled_from}
 use Rattle.rk_model.proofs.AgreeingKeysLemmas.{most_urgent_agree}
 use Rattle.rk_parts.proofs.SettlingLemmas.{settle_noted}

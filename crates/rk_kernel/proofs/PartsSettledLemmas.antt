@@ -1,0 +1,70 @@
+-- All parts after a gentle change, and after settling.
+use Rattle.std.proofs.Common.{◌≡◌, ℕ, ◌<◌, ◌≤◌, List, Some, length, map, refl, sym, ap, ◌∙◌, subst, arith}
+use Rattle.rk_model.specs.declared.scenario.Scenario.{Scenario}
+use Rattle.rk_model.specs.State.{Plain}
+use Rattle.rk_model.specs.Scheduling.Settling.{settle}
+use Rattle.rk_parts.specs.declared.parts.ClusterPart.{ClusterPart}
+use Rattle.rk_parts.specs.declared.parts.GroupPart.{GroupPart}
+use Rattle.rk_parts.specs.declared.parts.AllParts.{AllParts}
+use Rattle.rk_parts.specs.Joined.{plain_of}
+use Rattle.rk_parts.specs.Lent.{number_in, AreLaid, layouts, stored}
+use Rattle.rk_parts.specs.Noted.{settled_part, bare}
+use Rattle.rk_parts.proofs.PutLemmas.{length_clusters}
+use Rattle.rk_parts.proofs.WholeLemmas.{Keeps, lent_whole, whole_settled, plain_settled, all_noted_settled}
+use Rattle.rk_kernel.specs.Does.{Untouched, untouched}
+use Rattle.rk_kernel.specs.Ready.{IsReady}
+use Rattle.rk_kernel.specs.Sound.{IsSound, IsGentle}
+use Rattle.rk_kernel.proofs.ReadyQueueLemmas.{sound_lines}
+use Rattle.rk_kernel.proofs.SoundSettlingLemmas.{sound_settled}
+
+-- there are at most four clusters
+pub few_clusters : (all : AllParts) → IsReady all → length all.scenario.clusters ≤ 4
+few_clusters all ready = let size = length_clusters all.scenario.clusters all.clusters in omega (arith, ready.sound.few_clusters, size)
+
+-- as many as the scenario has
+pub count_clusters : (all : AllParts) → length (plain_of all).clusters ≡ length all.scenario.clusters
+count_clusters all = length_clusters all.scenario.clusters all.clusters
+
+-- and the part of each is found by its number
+pub part_found : (all : AllParts) (c : ℕ) → IsReady all → c < length all.scenario.clusters → number_in all.clusters c ≡ Some c
+part_found all c ready known = lent_whole all c ready.whole (few_clusters all ready) known
+
+-- All parts after a gentle change of the state: they are laid as parts of a state, and what they store and what no directive touches is as before.
+pub record IsChanged (before mid : AllParts) (next : Plain) : Type 0 where
+  pub gentle : IsGentle (plain_of before) next
+  pub state : plain_of mid ≡ next
+  pub laid : AreLaid before.scenario.clusters (layouts mid.clusters)
+  pub kept : stored mid.clusters ≡ stored before.clusters
+  pub rest : untouched mid ≡ untouched before
+
+keeps : (before mid : AllParts) (next : Plain) → IsChanged before mid next → Keeps before mid
+keeps before mid next is = record {
+  laid = is.laid;
+  kept = is.kept;
+  scenario = ap (λ (u : Untouched). u.scenario) is.rest;
+  groups = ap (λ (u : Untouched). u.groups) is.rest;
+  table = ap (λ (u : Untouched). u.time) is.rest;
+}
+
+-- All parts after settling, against the state after the change.
+pub record AreSettled (before after : AllParts) (next : Plain) (last : List ℕ) : Type 0 where
+  pub state : plain_of after ≡ settle (plain_of before) next last
+  pub ready : IsReady after
+
+-- Settled parts stand for the settled state, and are ready for the next step.
+pub settled : (before mid : AllParts) (new : List ClusterPart) (next : Plain) (last : List ℕ) → IsReady before → IsChanged before mid next → map bare new ≡ map (settled_part last) mid.clusters → AreSettled before (record mid { clusters = new }) next last
+settled before mid new next last ready is done =
+    let k = plain_of before in
+    let few = few_clusters before ready in
+    let keep = keeps before mid next is in
+    let lines = sound_lines k ready.sound in
+    let state : plain_of (record mid { clusters = new }) ≡ settle k next last =
+    plain_settled before mid new last ready.whole ready.noted lines few keep done ∙ ap (λ (n : Plain). settle k n last) is.state in
+    record {
+      state = state;
+      ready = record {
+        whole = whole_settled before mid new last ready.whole keep done;
+        sound = subst IsSound (sym state) (sound_settled k next last ready.sound is.gentle);
+        noted = all_noted_settled before mid new last ready.whole ready.noted lines few keep done;
+      };
+    }
