@@ -1,3 +1,4 @@
+pub mod LentLemmas
 pub mod TasksLemmas
 pub mod ObjectsLemmas
 pub mod ActionLemmas

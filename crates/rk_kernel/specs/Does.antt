@@ -1,5 +1,5 @@
 -- What the rows of the kernel do to the parts that are lent, against what they come to.
-use Rattle.std.specs.Prelude.{ℕ, ◌≡◌, ◌<◌, List, Bool, true, false, Option, Result, Ok, Err, length}
+use Rattle.std.specs.Prelude.{ℕ, ◌≡◌, ◌<◌, List, [], ◌∷◌, Bool, true, false, Option, Result, Ok, Err, length}
 use Rattle.rk_model.specs.declared.entry.Answer.{Answer}
 use Rattle.rk_model.specs.declared.entry.Answer.TheVariants as told
 use Rattle.rk_model.specs.declared.ids.Class.{Class}
@@ -67,6 +67,11 @@ with_table k table = record k { table = table }
 pub record Tells (o : Outcome) (answer : Answer) (k : Plain) : Type 0 where
   pub told : answer ≡ answer_of o
   pub state : changed k o ≡ k
+
+-- an index is the first of these
+abbrev pub IsFirst : ℕ → List ℕ → Type 0
+IsFirst index [] = ⊥
+IsFirst index (first ∷ more) = first ≡ index
 
 -- the thread whose timer this is lives
 abbrev pub HasLife : List ClusterPart → Armer → Type 0

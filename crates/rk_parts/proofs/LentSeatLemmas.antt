@@ -12,7 +12,7 @@ use Rattle.rk_model.specs.Text.Scenarios.{cpus_in}
 use Rattle.rk_model.proofs.BooleanLemmas.{same_number}
 use Rattle.rk_parts.specs.declared.parts.ClusterPart.{ClusterPart}
 use Rattle.rk_parts.specs.declared.parts.GroupPart.{GroupPart}
-use Rattle.rk_parts.specs.Joined.{listed, cluster_of, numbered, clusters_of, joined}
+use Rattle.rk_parts.specs.Joined.{listed, cluster_of, numbered, clusters_of, clusters_by, joined}
 use Rattle.rk_parts.specs.Lent.{layouts, AreLaid}
 use Rattle.rk_parts.specs.Noted.{part_at}
 use Rattle.rk_parts.specs.Seats.{is_seat, seat_in}
@@ -209,12 +209,12 @@ have_counts counts parts sit i h = let z : 0 + i ≡ i = omega arith in rw z (nu
 
 -- how many processors there are
 pub cpu_count_joined : (s : Scenario) (table : Table) (groups : List GroupPart) (parts : List ClusterPart) → AreLaid s.clusters (layouts parts) → cpu_count (joined s table parts groups) ≡ cpus_in s.clusters
-unfolding clusters_of
+unfolding clusters_by
 cpu_count_joined s table groups parts laid = cpus_listed (numbered s.clusters parts) 0 s.clusters (have_counts s.clusters parts (all_sit s.clusters parts laid))
 
 -- the thread that the parts have on a processor is the one that the state has there
 pub seat_joined : (s : Scenario) (table : Table) (groups : List GroupPart) (parts : List ClusterPart) (p : ℕ) → AreLaid s.clusters (layouts parts) → seat_in parts p ≡ cpu_at (joined s table parts groups) p
-unfolding clusters_of
+unfolding clusters_by
 seat_joined s table groups parts p laid = ⊎_elim (λ less. one (of_one counts p less)) none (cases_lt p (cpus_in counts)) where
   counts : List ℕ
   counts = s.clusters

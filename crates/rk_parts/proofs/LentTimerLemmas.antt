@@ -13,7 +13,7 @@ use Rattle.rk_model.specs.Directives.Objects.{has_begun}
 use Rattle.rk_model.specs.Scheduling.Timers.{without_due}
 use Rattle.rk_parts.specs.declared.parts.ClusterPart.{ClusterPart}
 use Rattle.rk_parts.specs.declared.parts.GroupPart.{GroupPart}
-use Rattle.rk_parts.specs.Joined.{listed, cluster_of, lives_in, placed_in, held, numbered, present_of, threads_of, clusters_of, joined, thread_lent, timers_lent}
+use Rattle.rk_parts.specs.Joined.{listed, cluster_of, lives_in, placed_in, held, numbered, present_of, threads_of, clusters_of, clusters_by, joined, thread_lent, timers_lent}
 use Rattle.rk_parts.specs.Lent.{found_in, number_in, one_more, AreLaid, frame, layouts, stored, PutsTimers, TakesDue, with_timers}
 use Rattle.rk_parts.specs.Threads.{Threads}
 use Rattle.rk_parts.specs.Noted.{part_at}
@@ -85,11 +85,11 @@ numbered_put counts (p ∷ ps) (suc at) c u part found same =
 
 -- the cluster of a number in the state
 pub cluster_numbered : (counts : List ℕ) (parts : List ClusterPart) (c : ℕ) → c < length counts → get_or (clusters_of counts parts) c no_cluster ≡ numbered counts parts c
-unfolding clusters_of
+unfolding clusters_by
 cluster_numbered counts parts c h = let e : 0 + c ≡ c = omega arith in get_or-listed (numbered counts parts) 0 (length counts) c no_cluster h ∙ ap (numbered counts parts) e
 
 clusters_put : (counts : List ℕ) (parts : List ClusterPart) (at c : ℕ) (part : ClusterPart) → number_in parts c ≡ Some at → part.lined.number ≡ (part_at parts at).lined.number → clusters_of counts (set parts at part) ≡ set (clusters_of counts parts) c (cluster_of part)
-unfolding clusters_of
+unfolding clusters_by
 clusters_put counts parts at c part found same =
     let e : 0 + c ≡ c = omega arith in
     set-listed (numbered counts parts) (numbered counts (set parts at part)) 0 (length counts) c (cluster_of part) (λ u. numbered_put counts parts at c u part found same ∙ ap (λ d. cond (u == d) (cluster_of part) (numbered counts parts u)) (sym e))

@@ -17,7 +17,7 @@ use Rattle.rk_model.specs.Directives.Objects.{has_begun}
 use Rattle.rk_model.proofs.IndexLemmas.{nth-with_other, nth-with_same}
 use Rattle.rk_parts.specs.declared.parts.ClusterPart.{ClusterPart}
 use Rattle.rk_parts.specs.declared.parts.GroupPart.{GroupPart}
-use Rattle.rk_parts.specs.Joined.{listed, cluster_of, placed_in, lives_in, held, numbered, present_of, threads_of, clusters_of, joined, thread_lent}
+use Rattle.rk_parts.specs.Joined.{listed, cluster_of, placed_in, lives_in, held, numbered, present_of, threads_of, clusters_of, clusters_by, joined, thread_lent}
 use Rattle.rk_parts.specs.Lent.{found_in, number_in, one_more, Puts, frame, Frame, layouts, stored, layout, stored_in}
 use Rattle.rk_parts.specs.Threads.{Threads, own_standing}
 use Rattle.rk_parts.specs.Noted.{part_at, no_part, standings_in, key_of, IsKeyed, AreNoted}
@@ -37,7 +37,7 @@ unfolding threads_of
 length_threads parts = length-listed (held parts) 1 64
 
 pub length_clusters : (counts : List ℕ) (parts : List ClusterPart) → length (clusters_of counts parts) ≡ length counts
-unfolding clusters_of
+unfolding clusters_by
 length_clusters counts parts = length-listed (numbered counts parts) 0 (length counts)
 
 -- where the threads that parts hold are those of others but for one, so are those of the state
@@ -72,7 +72,7 @@ numbered_same counts (p ∷ ps) zero c part e f = rw (e, f) refl
 numbered_same counts (p ∷ ps) (suc at) c part e f = ap (λ rest. if p.lined.number == c then cluster_of p else rest) (numbered_same counts ps at c part e f)
 
 pub clusters_same : (counts : List ℕ) (old new : List ClusterPart) → ((c : ℕ) → numbered counts new c ≡ numbered counts old c) → clusters_of counts new ≡ clusters_of counts old
-unfolding clusters_of
+unfolding clusters_by
 clusters_same counts old new same = same_listed (numbered counts new) (numbered counts old) 0 (length counts) same
 
 pub present_same : (parts : List ClusterPart) (at : ℕ) (part : ClusterPart) → part.present ≡ (part_at parts at).present → present_of (set parts at part) ≡ present_of parts
@@ -128,7 +128,9 @@ put_puts parts at t x low high found lives life home =
     let lies : layouts (set parts at now) ≡ layouts parts = layouts_same parts at now (layout_put part t x (outline_same x (placed_in part t) life lived (home ∙ ap (λ (y : Thread). y.home) is))) in
     let keeps : stored (set parts at now) ≡ stored parts = stored_same parts at now refl in
     record {
-      state = λ s table groups. state_put s table groups parts at t x low here;
+      threads = threads_put parts (set parts at now) t x low (held_with parts at t x here);
+      clusters = λ i counts. clusters_same counts parts (set parts at now) (λ c. numbered_same counts parts at c now refl refl) i;
+      present = present_same parts at now refl;
       kept = λ i. record { layouts = lies i; stored = keeps i };
     }
 

@@ -21,7 +21,7 @@ use Rattle.rk_line.specs.Places.{threads}
 use Rattle.rk_parts.specs.declared.parts.ClusterPart.{ClusterPart}
 use Rattle.rk_parts.specs.declared.parts.GroupPart.{GroupPart}
 use Rattle.rk_parts.specs.Threads.{is_ready, own_standing, Threads}
-use Rattle.rk_parts.specs.Joined.{listed, cluster_of, placed_in, lives_in, held, numbered, present_of, threads_of, clusters_of, joined, thread_lent}
+use Rattle.rk_parts.specs.Joined.{listed, cluster_of, placed_in, lives_in, held, numbered, present_of, threads_of, clusters_of, clusters_by, joined, thread_lent}
 use Rattle.rk_parts.specs.Lent.{found_in, number_in, one_more, AreLaid, Layout, layout, layouts, Stored, stored_in, stored}
 use Rattle.rk_parts.specs.ClusterRegisters.{register}
 use Rattle.rk_parts.specs.Noted.{key_of, IsKeyed, no_part, part_at, standings_in, AreNoted, LinesHold, settled_part, bare}
@@ -355,7 +355,7 @@ cluster_settled s k now before mid new last c is same known =
 
 clusters_settled : (s : Scenario) (k now : Plain) (before mid new : List ClusterPart) (last : List ℕ) → Settles s k before mid new last → now.threads ≡ threads_of mid →
     clusters_of s.clusters new ≡ settled_from (shifts (standings k) (standings now) last) (urgency now) 64 0 (clusters_of s.clusters mid)
-unfolding clusters_of
+unfolding clusters_by
 clusters_settled s k now before mid new last is same =
     same_within (numbered s.clusters new) (λ c. settled_cluster (shifts (standings k) (standings now) last c) (urgency now c) 64 (numbered s.clusters mid c)) 0 (length s.clusters)
     (λ i h. let e : 0 + i ≡ i = omega arith in rw e (cluster_settled s k now before mid new last i is same h))

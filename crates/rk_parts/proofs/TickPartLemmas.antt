@@ -7,7 +7,7 @@ use Rattle.rk_parts.specs.declared.parts.ClusterPart.{ClusterPart}
 use Rattle.rk_parts.specs.declared.parts.GroupPart.{GroupPart}
 use Rattle.rk_parts.specs.declared.parts.AllParts.{AllParts}
 use Rattle.rk_model.specs.State.{Plain}
-use Rattle.rk_parts.specs.Joined.{cluster_of, placed_in, lives_in, held, numbered, present_of, threads_of, clusters_of, plain_of}
+use Rattle.rk_parts.specs.Joined.{cluster_of, placed_in, lives_in, held, numbered, present_of, threads_of, clusters_of, clusters_by, plain_of}
 use Rattle.rk_parts.specs.Lent.{AreLaid, Layout, layout, layouts, stored}
 use Rattle.rk_parts.specs.Noted.{no_part, part_at, standings_in, key_of, IsKeyed, AreNoted}
 use Rattle.rk_parts.specs.Whole.{AreWhole, AreOnTime, ticks_of, ticks_in, at_tick, group_at_tick}
@@ -36,7 +36,7 @@ unfolding threads_of
 threads_tick n parts = same_listed (held (map (at_tick n) parts)) (held parts) 1 64 (held_tick n parts)
 
 clusters_tick : (n : ℕ) (counts : List ℕ) (parts : List ClusterPart) → clusters_of counts (map (at_tick n) parts) ≡ clusters_of counts parts
-unfolding clusters_of
+unfolding clusters_by
 clusters_tick n counts parts = same_listed (numbered counts (map (at_tick n) parts)) (numbered counts parts) 0 (length counts) (numbered_tick n counts parts)
 
 present_tick : (n m : ℕ) (parts : List ClusterPart) → length parts ≡ suc m → present_of (map (at_tick n) parts) ≡ n

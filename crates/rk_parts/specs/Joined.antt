@@ -52,8 +52,11 @@ unfoldable pub threads_of : List ClusterPart → List Thread
 threads_of parts = listed (held parts) 1 MOST_OBJECTS
 
 -- the clusters of these parts, where there are clusters of so many processors each
-unfoldable pub clusters_of : List ℕ → List ClusterPart → List ClusterState
-clusters_of counts parts = listed (numbered counts parts) 0 (length counts)
+unfoldable pub clusters_by : List ClusterPart → List ℕ → List ClusterState
+clusters_by parts counts = listed (numbered counts parts) 0 (length counts)
+
+abbrev pub clusters_of : List ℕ → List ClusterPart → List ClusterState
+clusters_of counts parts = clusters_by parts counts
 
 -- The state that these parts stand for, in the run of a scenario and with this table. So far the groups hold nothing of it.
 abbrev pub joined : Scenario → Table → List ClusterPart → List GroupPart → Plain

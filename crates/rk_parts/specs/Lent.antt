@@ -7,7 +7,7 @@ use Rattle.rk_model.specs.declared.settling.Standing.{Standing}
 use Rattle.rk_model.specs.declared.state.Armed.{Armed}
 use Rattle.rk_model.specs.declared.state.Life.TheVariants.{Dormant}
 use Rattle.rk_model.specs.declared.state.Thread.{Thread}
-use Rattle.rk_model.specs.Lists.{nth}
+use Rattle.rk_model.specs.Lists.{nth, with_nth}
 use Rattle.rk_model.specs.Names.{Table}
 use Rattle.rk_model.specs.State.{Plain, no_thread, put_thread, cluster_at, put_cluster}
 use Rattle.rk_model.specs.Directives.Objects.{has_begun}
@@ -16,7 +16,7 @@ use Rattle.rk_model.specs.Text.Scenarios.{cpus_in}
 use Rattle.rk_cluster.specs.Clusters.{Cluster}
 use Rattle.rk_parts.specs.declared.parts.ClusterPart.{ClusterPart}
 use Rattle.rk_parts.specs.declared.parts.GroupPart.{GroupPart}
-use Rattle.rk_parts.specs.Joined.{joined, lives_in, threads_of, thread_lent}
+use Rattle.rk_parts.specs.Joined.{joined, lives_in, present_of, threads_of, clusters_by, thread_lent}
 
 abbrev pub one_more : Option ℕ → Option ℕ
 one_more None = None
@@ -100,7 +100,9 @@ pub record AreLaid (counts : List ℕ) (parts : List Layout) : Type 0 where
 
 -- The parts stand for the state with another thread at an index, and keep their frame.
 pub record Puts (old : List ClusterPart) (t : ℕ) (thread : Thread) (new : List ClusterPart) : Type 0 where
-  pub state : (s : Scenario) (table : Table) (groups : List GroupPart) → joined s table new groups ≡ put_thread (joined s table old groups) t thread
+  pub threads : threads_of new ≡ with_nth (threads_of old) t thread
+  pub clusters : clusters_by new ≡ clusters_by old
+  pub present : present_of new ≡ present_of old
   pub kept : frame new ≡ frame old
 
 -- Where these are parts of a state, they stand for that state with another thread at an index; they store the same, and are laid as before where its home is a cluster of the state.

@@ -1,9 +1,6 @@
-ghost use Rattle.std.specs.Prelude.{◌≡◌, List};
+ghost use Rattle.std.specs.Prelude.{◌≡◌};
 ghost use Rattle.rk_model.specs.Scheduling.Priorities.{spins as spins_of, prio, home_prio, no_standing};
-ghost use Rattle.rk_model.specs.declared.scenario.Scenario.{Scenario};
-ghost use Rattle.rk_model.specs.Names.{Table};
-ghost use Rattle.rk_parts.specs.declared.parts.GroupPart.{GroupPart};
-ghost use Rattle.rk_parts.specs.Joined.{joined};
+ghost use Rattle.rk_parts.specs.Joined.{lent};
 ghost use Rattle.rk_parts.specs.Threads.{is_ready, own_standing};
 
 use crate::lent::thread_of;
@@ -43,7 +40,7 @@ pub fn own(thread: Thread) -> Standing
 
 /// Whether the thread spins.
 pub fn spins(clusters: &[ClusterPart], thread: ThreadIx) -> bool
-    ensures { (s : Scenario) (table : Table) (groups : List GroupPart) → result ≡ spins_of (joined s table clusters.now groups) thread }
+    ensures { result ≡ spins_of (lent clusters.now) thread }
 {
     match thread_of(clusters, thread).wait {
         None => false,
@@ -54,7 +51,7 @@ pub fn spins(clusters: &[ClusterPart], thread: ThreadIx) -> bool
 /// The priority of the thread in a cluster, if it has one there.
 #[tactic(auto, unfolding(rk_model::specs::Scheduling::Priorities::prio))]
 fn prio_of(clusters: &[ClusterPart], thread: ThreadIx, cluster: u8) -> Option<Prio>
-    ensures { (s : Scenario) (table : Table) (groups : List GroupPart) → result ≡ prio (joined s table clusters.now groups) thread cluster }
+    ensures { result ≡ prio (lent clusters.now) thread cluster }
 {
     let found = thread_of(clusters, thread);
     if found.home == cluster {
@@ -67,7 +64,7 @@ fn prio_of(clusters: &[ClusterPart], thread: ThreadIx, cluster: u8) -> Option<Pr
 /// The priority of the thread in its home; the least urgent one where it has none.
 #[tactic(auto, unfolding(rk_model::specs::Scheduling::Priorities::home_prio))]
 pub fn prio_at_home(clusters: &[ClusterPart], thread: ThreadIx) -> Prio
-    ensures { (s : Scenario) (table : Table) (groups : List GroupPart) → result ≡ home_prio (joined s table clusters.now groups) thread }
+    ensures { result ≡ home_prio (lent clusters.now) thread }
 {
     let home = thread_of(clusters, thread).home;
     match prio_of(clusters, thread, home) {

@@ -4,7 +4,7 @@ ghost use Rattle.std.specs.Prelude.{◌≡◌, ◌≤◌, IfOk, None, true};
 ghost use Rattle.rk_model.specs.Names.{names_of, lives};
 ghost use Rattle.rk_model.specs.State.{Plain};
 ghost use Rattle.rk_model.specs.Directives.Objects.{ident, without_object};
-ghost use Rattle.rk_kernel.specs.Does.{Creates, Tells, with_table};
+ghost use Rattle.rk_kernel.specs.Does.{Creates, IsFirst, Tells, with_table};
 
 use crate::directives::outcomes::done;
 use rk_model::{Answer, Class, Id, Name, Status};
@@ -20,6 +20,7 @@ pub(crate) fn create(
     refusal: Option<Status>,
 ) -> Result<u16, Status>
     ensures made { (k : Plain) → Creates (with_table k table.old) class name.bits refusal result (with_table k table.new) }
+    ensures first { IfOk result (λ index. IsFirst index (names_of class table.old).free) }
     ensures accepted { IfOk result (λ index. refusal ≡ None) }
     ensures within { IfOk result (λ index. (1 ≤ index) × (index ≤ 64)) }
 {

@@ -1,6 +1,6 @@
 //! What the outcomes of directives share: how a caller goes on, and how a wait begins and ends.
 
-ghost use Rattle.std.specs.Prelude.{◌≡◌, ◌≤◌, ◌<◌, length, None, true};
+ghost use Rattle.std.specs.Prelude.{◌≡◌, ◌≤◌, ◌<◌, length, None, Some, true};
 ghost use Rattle.std.specs.List.{slice_index_or};
 ghost use Rattle.rk_model.specs.declared.entry.Answer.TheVariants.{Done};
 ghost use Rattle.rk_model.specs.declared.status.Status.TheVariants.{Successful};
@@ -8,9 +8,10 @@ ghost use Rattle.rk_model.specs.Limits.{AreRunnable};
 ghost use Rattle.rk_model.specs.declared.scenario.Scenario.{Scenario as ScenarioView};
 ghost use Rattle.rk_model.specs.Directives.Objects.{has_begun};
 ghost use Rattle.rk_model.specs.Directives.Lines.{result_var};
-ghost use Rattle.rk_model.specs.Directives.Outcomes.{begin_wait, begin_limited, end_wait, stored as stored_in, go_on, concluded, status_of, out_of, last_of};
+ghost use Rattle.rk_model.specs.Directives.Outcomes.{begin_limited, end_wait, stored as stored_in, finished, concluded, status_of, out_of, last_of};
 ghost use Rattle.rk_kernel.specs.Does.{Becomes, goes_on_after};
 ghost use Rattle.rk_parts.specs.Joined.{thread_lent, timers_lent};
+ghost use Rattle.rk_parts.specs.Lent.{Puts};
 
 use rk_model::{Answer, Armer, Op, Reply, Scenario, Status, Thread, ThreadIx, Wait};
 use rk_parts::arrival::arrive;
@@ -67,7 +68,7 @@ fn go_on(scenario: &Scenario, clusters: &mut [ClusterPart], caller: ThreadIx, ou
     requires lives { has_begun (thread_lent clusters.old caller).life ≡ true }
     requires line { (thread_lent clusters.old caller).line ≤ 1001 }
     requires bodies { AreRunnable scenario.now.bodies }
-    ensures { Becomes scenario.now (λ k. go_on k caller out) clusters.old clusters.new }
+    ensures { Puts clusters.old caller (finished scenario.now (thread_lent clusters.old caller) out) clusters.new }
 {
     let thread = thread_of(clusters, caller);
     let var = result_var(scenario.op_at(thread.body, thread.line));
@@ -130,7 +131,7 @@ pub(crate) fn conclude(
 /// Lets the caller begin to wait.
 fn begin_wait(clusters: &mut [ClusterPart], caller: ThreadIx, wait: Wait)
     requires { has_begun (thread_lent clusters.old caller).life ≡ true }
-    ensures { (s : ScenarioView) → Becomes s (λ k. begin_wait k caller wait) clusters.old clusters.new }
+    ensures { Puts clusters.old caller (record (thread_lent clusters.old caller) { wait = Some wait }) clusters.new }
 {
     let thread = thread_of(clusters, caller);
     let waiting = Thread {
@@ -146,11 +147,13 @@ pub(crate) fn begin_limited(clusters: &mut [ClusterPart], caller: ThreadIx, wait
     requires room { length (timers_lent clusters.old caller) < 64 }
     ensures { (s : ScenarioView) → Becomes s (λ k. begin_limited k caller wait ticks) clusters.old clusters.new }
 {
-    let due = u64::from(present(clusters)) + u64::from(ticks);
-    if ticks != 0 {
+    if ticks == 0 {
+        begin_wait(clusters, caller, wait);
+    } else {
+        let due = u64::from(present(clusters)) + u64::from(ticks);
         arm(clusters, caller, Armer::Thread(caller), due);
+        begin_wait(clusters, caller, wait);
     }
-    begin_wait(clusters, caller, wait);
 }
 
 /// Ends the wait of a thread with a reply, and cancels its timer.

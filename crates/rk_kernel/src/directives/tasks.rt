@@ -3,13 +3,15 @@
 ghost use Rattle.std.specs.Prelude.{◌≡◌, ◌<◌, IfSome, IsSome, length, true};
 ghost use Rattle.rk_model.specs.declared.ids.Class.TheVariants.{Task};
 ghost use Rattle.rk_model.specs.declared.scenario.Scenario.{Scenario as ScenarioView};
+ghost use Rattle.rk_model.specs.declared.state.Life.TheVariants.{Started};
 ghost use Rattle.rk_model.specs.State.{Plain};
 ghost use Rattle.rk_model.specs.Directives.Objects.{has_begun, object_of};
-ghost use Rattle.rk_model.specs.Directives.Tasks.{task_of, task_named, dormant_in, prio_refusal, task_create, task_ident, is_dormant, with_started, task_start, with_suspended, task_suspend, task_resume, with_base, task_set_priority, without_task, task_delete, task_exit, task_wake_after};
+ghost use Rattle.rk_model.specs.Directives.Tasks.{task_of, task_named, dormant_in, prio_refusal, task_create, task_ident, is_dormant, task_start, task_suspend, task_resume, task_set_priority, without_task, task_delete, task_exit, task_wake_after};
+ghost use Rattle.rk_model.specs.Directives.Outcomes.{arrived};
 ghost use Rattle.rk_model.specs.Limits.{AreRunnable};
-ghost use Rattle.rk_kernel.specs.Does.{Becomes, BecomesWide, Does, DoesWide, Tells, with_table};
+ghost use Rattle.rk_kernel.specs.Does.{BecomesWide, Does, DoesWide, Tells, with_table};
 ghost use Rattle.rk_parts.specs.Joined.{lent, thread_lent, threads_of, timers_lent};
-ghost use Rattle.rk_parts.specs.Lent.{number_in};
+ghost use Rattle.rk_parts.specs.Lent.{number_in, Puts};
 ghost use Rattle.rk_parts.specs.NamesAgree.{AreNamed};
 
 use crate::directives::objects::{create, ident, remove};
@@ -140,7 +142,7 @@ fn is_dormant(life: Life) -> bool
 fn with_started(scenario: &Scenario, clusters: &mut [ClusterPart], task: ThreadIx, body: u8)
     requires lives { has_begun (thread_lent clusters.old task).life ≡ true }
     requires bodies { AreRunnable scenario.now.bodies }
-    ensures { Becomes scenario.now (λ k. with_started k task body) clusters.old clusters.new }
+    ensures { Puts clusters.old task (arrived scenario.now (record (thread_lent clusters.old task) { life = Started; body = body }) 1) clusters.new }
 {
     let thread = thread_of(clusters, task);
     let begun = Thread {
@@ -181,7 +183,7 @@ pub(crate) fn task_start(
 /// Says of a task whether it is suspended from now on.
 fn with_suspended(clusters: &mut [ClusterPart], task: ThreadIx, suspended: bool)
     requires { has_begun (thread_lent clusters.old task).life ≡ true }
-    ensures { (s : ScenarioView) → Becomes s (λ k. with_suspended k task suspended) clusters.old clusters.new }
+    ensures { Puts clusters.old task (record (thread_lent clusters.old task) { suspended = suspended }) clusters.new }
 {
     let thread = thread_of(clusters, task);
     let changed = Thread {
@@ -232,7 +234,7 @@ pub(crate) fn task_resume(clusters: &mut [ClusterPart], caller: ThreadIx, id: Ta
 /// Sets the base priority of a task.
 fn with_base(clusters: &mut [ClusterPart], task: ThreadIx, base: Prio)
     requires { has_begun (thread_lent clusters.old task).life ≡ true }
-    ensures { (s : ScenarioView) → Becomes s (λ k. with_base k task base) clusters.old clusters.new }
+    ensures { Puts clusters.old task (record (thread_lent clusters.old task) { base = base }) clusters.new }
 {
     let thread = thread_of(clusters, task);
     put(clusters, task, Thread { base, ..thread });
@@ -242,6 +244,7 @@ fn with_base(clusters: &mut [ClusterPart], task: ThreadIx, base: Prio)
 /// goes to the end of its ready queue, and answers the priority that it had in its home; with 0 it
 /// only answers that. It refuses with `INVALID_ID` where the task is unknown, and with
 /// `INVALID_PRIORITY` where the priority is above 255.
+#[tactic(auto, unfolding(rk_model::specs::Scheduling::Priorities::home_prio, rk_model::specs::Scheduling::Priorities::prio))]
 pub(crate) fn task_set_priority(
     clusters: &mut [ClusterPart],
     caller: ThreadIx,

@@ -17,7 +17,7 @@ returns-then-spins c = λ s table groups laid.
     let t = c.in-Some.thread in
     let k = joined s table parts groups in
     let here : Some t ≡ cpu_at k c.args.cpu = sym c.in-Some.is ∙ c.cpu_of.ensures ∙ seat_joined s table groups parts c.args.cpu laid in
-    ap (λ b. if b then Spins t else Runs t) (sym c.if-spins.true ∙ c.spins.ensures s table groups) ∙ ap (view_of k) here
+    ap (λ b. if b then Spins t else Runs t) (sym c.if-spins.true ∙ c.spins.ensures) ∙ ap (view_of k) here
 
 pub returns-else-spins : goal.returns-else-spins
 returns-else-spins c = λ s table groups laid.
@@ -25,4 +25,4 @@ returns-else-spins c = λ s table groups laid.
     let t = c.in-Some.thread in
     let k = joined s table parts groups in
     let here : Some t ≡ cpu_at k c.args.cpu = sym c.in-Some.is ∙ c.cpu_of.ensures ∙ seat_joined s table groups parts c.args.cpu laid in
-    ap (λ b. if b then Spins t else Runs t) (sym c.if-spins.false ∙ c.spins.ensures s table groups) ∙ ap (view_of k) here
+    ap (λ b. if b then Spins t else Runs t) (sym c.if-spins.false ∙ c.spins.ensures) ∙ ap (view_of k) here

@@ -1,9 +1,9 @@
-use Rattle.std.proofs.Common.{ap}
-use Rattle.rk_model.specs.declared.state.Thread.{Thread}
-use Rattle.rk_parts.specs.Pieces.{plain_of}
-use Rattle.rk_kernel.proofs.TimerRoomLemmas.{room_waiting}
+use Rattle.std.proofs.Common.{◌≡◌, ◌+◌, ap, ◌∙◌}
+use Rattle.rk_parts.specs.Joined.{present_of}
+use Rattle.rk_kernel.proofs.DirectiveLemmas.LentLemmas.{limited}
 use Rattle.rk_kernel.proofs.directives.outcomes.begin_limited.Goals as goal
 
-pub arm_timer-requires-clause-room : goal.arm_timer-requires-clause-room
-arm_timer-requires-clause-room c =
-    room_waiting (plain_of c.args.core.now) (plain_of c.begin_wait.new.core) c.args.caller c.get-home.result.home c.args.wait c.requires c.begin_wait.ensures.next (ap (λ (x : Thread). x.home) c.get-home.ensures)
+pub returns-else-ticks-eq0 : goal.returns-else-ticks-eq0
+returns-else-ticks-eq0 c = λ s.
+    let due : c.from.result + c.from-else-ticks-eq0.result ≡ present_of c.args.clusters.now + c.args.ticks = ap (λ n. n + c.from-else-ticks-eq0.result) (c.from.ensures ∙ c.present.ensures) ∙ ap (λ n. present_of c.args.clusters.now + n) c.from-else-ticks-eq0.ensures in
+    limited s c.args.clusters.now c.arm.new.clusters c.begin_wait-else-ticks-eq0.new.clusters c.args.caller c.args.wait c.args.ticks _ c.if-ticks-eq0.false due c.arm.ensures c.begin_wait-else-ticks-eq0.ensures
