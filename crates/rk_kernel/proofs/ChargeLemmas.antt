@@ -1,25 +1,31 @@
 -- Work that is charged, processor by processor.
-use Rattle.std.proofs.Common.{◌≡◌, ℕ, zero, suc, ◌+◌, ◌<◌, ◌≤◌, List, [], ◌∷◌, Bool, true, false, cond, ◌==◌, ◌||◌, Option, Some, None, length, get_or, arith, refl, ap, sym, ◌∙◌}
+use Rattle.std.proofs.Common.{◌≡◌, ℕ, zero, suc, ◌+◌, ◌<◌, ◌≤◌, List, [], ◌∷◌, Bool, true, false, cond, ◌==◌, ◌||◌, ◌&&◌, not, Option, Some, None, length, get_or, arith, refl, ap, subst, sym, ◌∙◌}
 use Rattle.std.proofs.lemmas.Bool.{false≢true}
 use Rattle.std.proofs.lemmas.Bool.Decides.{nat_tests}
 use Rattle.std.proofs.lemmas.List.{ext_get_or}
 use Rattle.rk_model.specs.declared.scenario.Scenario.{Scenario}
 use Rattle.rk_model.specs.declared.entry.View.{View}
 use Rattle.rk_model.specs.declared.entry.View.TheVariants.{Idle, Spins, Runs}
+use Rattle.rk_model.specs.declared.state.Life.{Life}
+use Rattle.rk_model.specs.declared.state.Life.TheVariants.{Absent, Dormant, Started, Ended}
 use Rattle.rk_model.specs.declared.state.Thread.{Thread}
 use Rattle.rk_model.specs.Lists.{nth, with_nth}
 use Rattle.rk_model.specs.State.{Plain, no_thread, thread_at}
-use Rattle.rk_model.specs.Scheduling.Priorities.{spins_in, spins}
+use Rattle.rk_model.specs.Scheduling.Priorities.{spins_in, spins, is_started, is_no_wait, is_eligible}
 use Rattle.rk_model.specs.Scheduling.Running.{cpu_at, cpu_count, view_of, running, is_run_of, runs_from, runs_somewhere}
+use Rattle.rk_model.specs.Directives.Objects.{has_begun}
 use Rattle.rk_model.specs.Scheduling.Ticks.{charged, ticked, charge_from}
+use Rattle.rk_model.proofs.BooleanLemmas.{and_front}
 use Rattle.rk_model.proofs.IndexLemmas.{nth-with_other, nth-with_same, length-with_nth}
 use Rattle.rk_parts.specs.Threads.{own_standing}
 use Rattle.rk_parts.specs.declared.parts.AllParts.{AllParts}
-use Rattle.rk_parts.specs.Joined.{plain_of, threads_of}
-use Rattle.rk_parts.specs.Lent.{frame}
+use Rattle.rk_parts.specs.Joined.{plain_of, threads_of, thread_lent}
+use Rattle.rk_parts.specs.Lent.{AreLaid, Frame, frame, layouts}
 use Rattle.rk_parts.specs.Noted.{AreNoted}
-use Rattle.rk_kernel.specs.Does.{untouched}
+use Rattle.rk_kernel.specs.Does.{Untouched, untouched}
 use Rattle.rk_kernel.specs.Manned.{RunOnce}
+use Rattle.rk_kernel.specs.Sound.{IsSound}
+use Rattle.rk_kernel.proofs.CallerLemmas.{seated_eligible}
 use Rattle.rk_kernel.proofs.TickLemmas.{spins_alike, charged_steady, length-charge_from}
 
 -- a thread that is charged stands as before
@@ -31,14 +37,23 @@ abbrev charged_by : Plain → ℕ → ℕ → Thread
 charged_by k p t = cond (runs_from k t 0 p) (charged k.scenario (thread_at k t)) (thread_at k t)
 
 -- what is kept while the processors in front of one are gone through
-pub record IsCharged (k : Plain) (p : ℕ) (core old : AllParts) : Type 0 where
-  pub places : length threads_of core.clusters ≡ length k.threads
-  pub threads : (t : ℕ) → nth no_thread threads_of core.clusters t ≡ charged_by k p t
-  pub rest : plain_of core ≡ (let n : Plain = record k { threads = threads_of core.clusters } in n)
-  pub kept : stored core ≡ stored old
+pub record IsCharged (k : Plain) (p : ℕ) (all old : AllParts) : Type 0 where
+  pub places : length (threads_of all.clusters) ≡ length k.threads
+  pub threads : (t : ℕ) → nth no_thread (threads_of all.clusters) t ≡ charged_by k p t
+  pub rest : plain_of all ≡ (let n : Plain = record k { threads = threads_of all.clusters } in n)
+  pub kept : frame all.clusters ≡ frame old.clusters
+  pub noted : AreNoted (length old.scenario.clusters) all.clusters
+  pub others : untouched all ≡ untouched old
 
-pub none_charged : (core : AllParts) → IsCharged (plain_of core) 0 core core
-none_charged core = record { places = refl; threads = λ t. refl; rest = refl; kept = refl }
+pub none_charged : (all : AllParts) → AreNoted (length all.scenario.clusters) all.clusters → IsCharged (plain_of all) 0 all all
+none_charged all noted = record { places = refl; threads = λ t. refl; rest = refl; kept = refl; noted = noted; others = refl }
+
+-- The parts are laid still as parts of the state.
+pub laid_charged : (k : Plain) (p : ℕ) (all old : AllParts) → AreLaid old.scenario.clusters (layouts old.clusters) → IsCharged k p all old → AreLaid all.scenario.clusters (layouts all.clusters)
+laid_charged k p all old laid is =
+    let same : all.scenario ≡ old.scenario = ap (λ (u : Untouched). u.scenario) is.others in
+    let lie : layouts all.clusters ≡ layouts old.clusters = ap (λ (f : Frame). f.layouts) is.kept in
+    subst (λ (s : Scenario). AreLaid s.clusters (layouts all.clusters)) (sym same) (subst (AreLaid old.scenario.clusters) (sym lie) laid)
 
 -- the last of some processors
 or_assoc : (a b d : Bool) → (a || (b || d)) ≡ ((a || b) || d)
@@ -94,44 +109,47 @@ view_charged k n (Some t) same =
     let spun : spins n t ≡ spins k t = ap (spins_in n) (same t) ∙ spins_alike k n (thread_at k t).wait in
     ap (λ b. cond b (Spins t) (Runs t)) spun
 
-running_charged : (k : Plain) (p : ℕ) (core old : AllParts) (q : ℕ) → IsCharged k p core old → running (plain_of core) q ≡ running k q
-running_charged k p core old q is =
-    let n : Plain = record k { threads = threads_of core.clusters } in
+running_charged : (k : Plain) (p : ℕ) (all old : AllParts) (q : ℕ) → IsCharged k p all old → running (plain_of all) q ≡ running k q
+running_charged k p all old q is =
+    let n : Plain = record k { threads = threads_of all.clusters } in
     ap (λ (m : Plain). running m q) is.rest
     ∙ view_charged k n (cpu_at k q) (λ t. ap (λ (x : Thread). x.wait) (is.threads t) ∙ wait_charged k p t)
 
 -- the thread of one processor more is charged, where the processor runs one
-pub one_charged : (k : Plain) (p u : ℕ) (core next old : AllParts) (thread : Thread) → RunOnce k → length k.threads ≡ 64 → IsCharged k p core old → Runs u ≡ running (plain_of core) p → 1 ≤ u → u ≤ 64 → thread ≡ charged core.scenario (nth no_thread threads_of core.clusters u) →
-    plain_of next ≡ (let n : Plain = record (plain_of core) { threads = with_nth threads_of core.clusters u thread } in n) → stored next ≡ stored core → IsCharged k (p + 1) next old
-one_charged k p u core next old thread once size is does low high made put kept =
-    let runs : running k p ≡ Runs u = sym (running_charged k p core old p is) ∙ sym does in
-    let places : threads_of next.clusters ≡ with_nth threads_of core.clusters u thread = ap (λ (n : Plain). n.threads) put in
+pub one_charged : (k : Plain) (p u : ℕ) (all next old : AllParts) (thread : Thread) → RunOnce k → length k.threads ≡ 64 → IsCharged k p all old → Runs u ≡ running (plain_of all) p → 1 ≤ u → u ≤ 64 → thread ≡ charged all.scenario (nth no_thread (threads_of all.clusters) u) →
+    plain_of next ≡ (let n : Plain = record (plain_of all) { threads = with_nth (threads_of all.clusters) u thread } in n) → frame next.clusters ≡ frame all.clusters →
+    AreNoted (length old.scenario.clusters) next.clusters → untouched next ≡ untouched all → IsCharged k (p + 1) next old
+one_charged k p u all next old thread once size is does low high made put kept noted others =
+    let runs : running k p ≡ Runs u = sym (running_charged k p all old p is) ∙ sym does in
+    let places : threads_of next.clusters ≡ with_nth (threads_of all.clusters) u thread = ap (λ (n : Plain). n.threads) put in
     let before : runs_from k u 0 p ≡ false = none_before k p u once runs p (omega arith) in
-    let was : nth no_thread threads_of core.clusters u ≡ thread_at k u = is.threads u ∙ ap (λ b. cond b (charged k.scenario (thread_at k u)) (thread_at k u)) before in
-    let same : core.scenario ≡ k.scenario = ap (λ (n : Plain). n.scenario) is.rest in
-    let value : thread ≡ charged k.scenario (thread_at k u) = made ∙ ap (λ (s : Scenario). charged s (nth no_thread threads_of core.clusters u)) same ∙ ap (charged k.scenario) was in
+    let was : nth no_thread (threads_of all.clusters) u ≡ thread_at k u = is.threads u ∙ ap (λ b. cond b (charged k.scenario (thread_at k u)) (thread_at k u)) before in
+    let same : all.scenario ≡ k.scenario = ap (λ (n : Plain). n.scenario) is.rest in
+    let value : thread ≡ charged k.scenario (thread_at k u) = made ∙ ap (λ (s : Scenario). charged s (nth no_thread (threads_of all.clusters) u)) same ∙ ap (charged k.scenario) was in
     record {
-      places = ap (λ (ts : List Thread). length ts) places ∙ length-with_nth thread threads_of core.clusters u ∙ is.places;
+      places = ap (λ (ts : List Thread). length ts) places ∙ length-with_nth thread (threads_of all.clusters) u ∙ is.places;
       threads = λ t. (
           let here : runs_from k t 0 (p + 1) ≡ (runs_from k t 0 p || (u == t)) = runs_to k t p ∙ ap (λ v. runs_from k t 0 p || is_run_of t v) runs in
           ap (λ (ts : List Thread). nth no_thread ts t) places ∙ by t (u == t) refl value places ∙ ap (λ b. cond b (charged k.scenario (thread_at k t)) (thread_at k t)) (sym here));
-      rest = put ∙ ap (λ (n : Plain). (let m : Plain = record n { threads = with_nth threads_of core.clusters u thread } in m)) is.rest ∙ ap (λ (ts : List Thread). (let m : Plain = record k { threads = ts } in m)) (sym places);
+      rest = put ∙ ap (λ (n : Plain). (let m : Plain = record n { threads = with_nth (threads_of all.clusters) u thread } in m)) is.rest ∙ ap (λ (ts : List Thread). (let m : Plain = record k { threads = ts } in m)) (sym places);
       kept = kept ∙ is.kept;
+      noted = noted;
+      others = others ∙ is.others;
     }
   where
     or_true : (a : Bool) → (a || true) ≡ true
     or_true true = refl
     or_true false = refl
 
-    by : (t : ℕ) (b : Bool) → (u == t) ≡ b → thread ≡ charged k.scenario (thread_at k u) → threads_of next.clusters ≡ with_nth threads_of core.clusters u thread → nth no_thread (with_nth threads_of core.clusters u thread) t ≡ cond (runs_from k t 0 p || b) (charged k.scenario (thread_at k t)) (thread_at k t)
+    by : (t : ℕ) (b : Bool) → (u == t) ≡ b → thread ≡ charged k.scenario (thread_at k u) → threads_of next.clusters ≡ with_nth (threads_of all.clusters) u thread → nth no_thread (with_nth (threads_of all.clusters) u thread) t ≡ cond (runs_from k t 0 p || b) (charged k.scenario (thread_at k t)) (thread_at k t)
     by t true e value places =
         let same : u ≡ t = grind (arith, nat_tests, e) in
-        ap (nth no_thread (with_nth threads_of core.clusters u thread)) (sym same)
-        ∙ nth-with_same no_thread thread threads_of core.clusters u (omega (arith, low)) (omega (arith, high, is.places, size))
+        ap (nth no_thread (with_nth (threads_of all.clusters) u thread)) (sym same)
+        ∙ nth-with_same no_thread thread (threads_of all.clusters) u (omega (arith, low)) (omega (arith, high, is.places, size))
         ∙ value ∙ ap (λ v. charged k.scenario (thread_at k v)) same
         ∙ ap (λ b. cond b (charged k.scenario (thread_at k t)) (thread_at k t)) (sym (or_true (runs_from k t 0 p)))
     by t false e value places =
-        nth-with_other no_thread thread threads_of core.clusters u t (λ q. false≢true (sym e ∙ grind (arith, nat_tests, q)))
+        nth-with_other no_thread thread (threads_of all.clusters) u t (λ q. false≢true (sym e ∙ grind (arith, nat_tests, q)))
         ∙ is.threads t ∙ ap (λ b. cond b (charged k.scenario (thread_at k t)) (thread_at k t)) (sym (or_end (runs_from k t 0 p)))
 
 not_run : (t : ℕ) (view : View) → ((u : ℕ) → view ≡ Runs u → ⊥) → is_run_of t view ≡ false
@@ -140,15 +158,17 @@ not_run t (Spins u) none = refl
 not_run t (Runs u) none = absurd (none u refl)
 
 -- a processor that runs none changes nothing
-pub none_more_charged : (k : Plain) (p : ℕ) (core old : AllParts) (view : View) → IsCharged k p core old → view ≡ running (plain_of core) p → ((u : ℕ) → view ≡ Runs u → ⊥) → IsCharged k (p + 1) core old
-none_more_charged k p core old view is does none = record {
+pub none_more_charged : (k : Plain) (p : ℕ) (all old : AllParts) (view : View) → IsCharged k p all old → view ≡ running (plain_of all) p → ((u : ℕ) → view ≡ Runs u → ⊥) → IsCharged k (p + 1) all old
+none_more_charged k p all old view is does none = record {
   places = is.places;
   threads = λ t. (
-      let same : view ≡ running k p = does ∙ running_charged k p core old p is in
+      let same : view ≡ running k p = does ∙ running_charged k p all old p is in
       let here : runs_from k t 0 (p + 1) ≡ runs_from k t 0 p = runs_to k t p ∙ ap (λ v. runs_from k t 0 p || is_run_of t v) (sym same) ∙ ap (λ b. runs_from k t 0 p || b) (not_run t view none) ∙ or_end (runs_from k t 0 p) in
       is.threads t ∙ ap (λ b. cond b (charged k.scenario (thread_at k t)) (thread_at k t)) (sym here));
   rest = is.rest;
   kept = is.kept;
+  noted = is.noted;
+  others = is.others;
 }
 
 charge_at : (k : Plain) (a : ℕ) (ts : List Thread) (i : ℕ) → i < length ts → get_or (charge_from k a ts) i no_thread ≡ ticked k (a + i) (get_or ts i no_thread)
@@ -159,16 +179,42 @@ charge_at k a (x ∷ xs) zero within = let e : a + 0 ≡ a = omega arith in rw e
 charge_at k a (x ∷ xs) (suc i) within = let e : a + suc i ≡ a + 1 + i = omega arith in rw e (charge_at k (a + 1) xs i (omega (arith, within)))
 
 -- when all processors have been gone through, all threads that run are charged
-pub all_charged : (k : Plain) (p : ℕ) (core old : AllParts) → p ≡ cpu_count k → IsCharged k p core old → plain_of core ≡ (let n : Plain = record k { threads = charge_from k 1 k.threads } in n)
+pub all_charged : (k : Plain) (p : ℕ) (all old : AllParts) → p ≡ cpu_count k → IsCharged k p all old → plain_of all ≡ (let n : Plain = record k { threads = charge_from k 1 k.threads } in n)
 unfolding ticked runs_somewhere
-all_charged k p core old all is =
-    let same : threads_of core.clusters ≡ charge_from k 1 k.threads =
-    ext_get_or no_thread threads_of core.clusters (charge_from k 1 k.threads) (is.places ∙ sym (length-charge_from k 1 k.threads))
-    (λ i h. is.threads (suc i) ∙ ap (λ n. charged_by k n (suc i)) all ∙ sym (let e : 1 + i ≡ suc i = omega arith in charge_at k 1 k.threads i (omega (arith, h, is.places)) ∙ ap (λ t. ticked k t (get_or k.threads i no_thread)) e)) in
+all_charged k p all old count is =
+    let same : threads_of all.clusters ≡ charge_from k 1 k.threads =
+    ext_get_or no_thread (threads_of all.clusters) (charge_from k 1 k.threads) (is.places ∙ sym (length-charge_from k 1 k.threads))
+    (λ i h. is.threads (suc i) ∙ ap (λ n. charged_by k n (suc i)) count ∙ sym (let e : 1 + i ≡ suc i = omega arith in charge_at k 1 k.threads i (omega (arith, h, is.places)) ∙ ap (λ t. ticked k t (get_or k.threads i no_thread)) e)) in
     is.rest ∙ ap (λ (ts : List Thread). (let n : Plain = record k { threads = ts } in n)) same
 
 -- a thread that a processor runs hasn't been charged
-pub uncharged : (k : Plain) (p u : ℕ) (core old : AllParts) → RunOnce k → IsCharged k p core old → Runs u ≡ running (plain_of core) p → nth no_thread threads_of core.clusters u ≡ thread_at k u
-uncharged k p u core old once is does =
-    let runs : running k p ≡ Runs u = sym (running_charged k p core old p is) ∙ sym does in
+pub uncharged : (k : Plain) (p u : ℕ) (all old : AllParts) → RunOnce k → IsCharged k p all old → Runs u ≡ running (plain_of all) p → nth no_thread (threads_of all.clusters) u ≡ thread_at k u
+uncharged k p u all old once is does =
+    let runs : running k p ≡ Runs u = sym (running_charged k p all old p is) ∙ sym does in
     is.threads u ∙ ap (λ b. cond b (charged k.scenario (thread_at k u)) (thread_at k u)) (none_before k p u once runs p (omega arith))
+
+-- what a processor has that runs a thread
+viewed_run : (k : Plain) (o : Option ℕ) (u : ℕ) → view_of k o ≡ Runs u → o ≡ Some u
+viewed_run k None u h = let no : ⊥ = cc in absurd no
+viewed_run k (Some t) u h = by (spins k t) h where
+  by : (b : Bool) → cond b (Spins t) (Runs t) ≡ Runs u → Some t ≡ Some u
+  by true h = let no : ⊥ = cc in absurd no
+  by false h = let same : t ≡ u = cc in ap (λ (v : ℕ). Some v) same
+
+begun_started : (life : Life) → is_started life ≡ true → has_begun life ≡ true
+begun_started Absent h = absurd (false≢true h)
+begun_started Dormant h = refl
+begun_started Started h = refl
+begun_started Ended h = refl
+
+runner_lives : (k : Plain) (p u : ℕ) → IsSound k → running k p ≡ Runs u → has_begun (thread_at k u).life ≡ true
+unfolding is_eligible
+runner_lives k p u sound runs =
+    let thread = thread_at k u in
+    let stands = seated_eligible k p u sound (viewed_run k (cpu_at k p) u runs) in
+    begun_started thread.life (and_front (is_started thread.life) (not thread.suspended) (and_front (is_started thread.life && not thread.suspended) (is_no_wait thread.wait || spins k u) stands))
+
+-- and lives.
+pub charged_lives : (k : Plain) (p u : ℕ) (all old : AllParts) → IsSound k → RunOnce k → IsCharged k p all old → Runs u ≡ running (plain_of all) p → has_begun (thread_lent all.clusters u).life ≡ true
+charged_lives k p u all old sound once is does =
+    ap (λ (x : Thread). has_begun x.life) (uncharged k p u all old once is does) ∙ runner_lives k p u sound (sym (running_charged k p all old p is) ∙ sym does)

@@ -1,23 +1,43 @@
 -- Timers that are due fire one after another, and each firing keeps a state sound.
-use Rattle.std.proofs.Common.{◌≡◌, ℕ, zero, suc, ◌+◌, ◌<◌, ◌≤◌, List, [], ◌∷◌, Bool, true, false, cond, eqb, not, None, Some, length, get_or, arith, refl, ap, sym, ◌∙◌, subst}
+use Rattle.std.proofs.Common.{◌≡◌, ℕ, zero, suc, ◌+◌, ◌<◌, ◌≤◌, List, [], ◌∷◌, Bool, true, false, cond, eqb, not, Option, None, Some, length, map, get_or, arith, refl, ap, sym, ◌∙◌, subst, ⊎_elim}
 use Rattle.std.specs.List.{slice_set}
-use Rattle.std.proofs.lemmas.List.{set-get_or, get_or-set_same, length-set}
+use Rattle.std.proofs.lemmas.List.{set-get_or, get_or-set_same, get_or_past, ext_get_or, length-map}
+use Rattle.std.proofs.lemmas.Bool.{false≢true, cases_lt}
 use Rattle.std.proofs.lemmas.Bool.Decides.{nat_tests}
+use Rattle.rk_model.specs.declared.entry.Reply.{Reply}
+use Rattle.rk_model.specs.declared.scenario.Scenario.{Scenario}
 use Rattle.rk_model.specs.declared.settling.Shift.{Shift}
 use Rattle.rk_model.specs.declared.state.Armed.{Armed}
 use Rattle.rk_model.specs.declared.state.Armer.{Armer}
 use Rattle.rk_model.specs.declared.state.Armer.TheVariants.{Thread as OfThread}
-use Rattle.rk_model.specs.State.{Plain, ClusterState, no_cluster, thread_at, cluster_at}
+use Rattle.rk_model.specs.declared.state.Thread.{Thread}
+use Rattle.rk_model.specs.Lists.{nth}
+use Rattle.rk_model.specs.State.{Plain, ClusterState, no_cluster, no_thread, thread_at, cluster_at}
+use Rattle.rk_model.specs.Directives.Objects.{has_begun}
 use Rattle.rk_model.specs.Scheduling.Priorities.{standings}
 use Rattle.rk_parts.specs.Settled.{settled_from}
 use Rattle.rk_parts.proofs.SettlingLemmas.{settle_each}
 use Rattle.rk_model.specs.Scheduling.Timers.{is_same, times_armed, without_timer, due_at, is_due, without_due, take_due, cancel}
 use Rattle.rk_model.specs.Scheduling.Ticks.{rung, expire, fire, fire_each}
+use Rattle.rk_model.specs.Directives.Outcomes.{end_wait, reply_at_timer}
+use Rattle.rk_parts.specs.declared.parts.ClusterPart.{ClusterPart}
+use Rattle.rk_parts.specs.declared.parts.AllParts.{AllParts}
+use Rattle.rk_parts.specs.Threads.{own_standing}
+use Rattle.rk_parts.specs.Joined.{joined, placed_in, lives_in, numbered, present_of, threads_of, plain_of, thread_lent}
+use Rattle.rk_parts.specs.Lent.{found_in, AreLaid, Layout, layout, layouts, layout_at, lives_at, Stored, stored_in, Frame, frame, TakesDue}
+use Rattle.rk_parts.specs.Noted.{no_part, part_at, key_of, IsKeyed, AreNoted, settled_part, bare}
 use Rattle.rk_parts.specs.Firing.{head_of, due_now, FiresFirst}
-use Rattle.rk_kernel.specs.Sound.{IsSound, IsGentle, waits_in, is_waiting}
+use Rattle.rk_parts.proofs.HeldLemmas.{held_found, found_lives, nowhere_lives}
+use Rattle.rk_parts.proofs.LayoutLemmas.{Lie, lie, lives_is}
+use Rattle.rk_parts.proofs.LentTimerLemmas.{numbered_found, cluster_numbered}
+use Rattle.rk_parts.proofs.SettledPartLemmas.{thread_any, same_stored}
+use Rattle.rk_kernel.specs.Does.{Becomes, HasLife}
+use Rattle.rk_kernel.specs.Ready.{IsReady}
+use Rattle.rk_kernel.specs.Sound.{IsSound, IsGentle, waits_in, is_waiting, is_in_call}
 use Rattle.rk_model.proofs.BooleanLemmas.{equal_test, and_front, and_back}
 use Rattle.rk_kernel.proofs.ThreadBoundsLemmas.{bounds_at}
-use Rattle.rk_kernel.proofs.GentleChangeLemmas.{gentle_same, gentle_fewer, gentle_end_wait}
+use Rattle.rk_kernel.proofs.GentleChangeLemmas.{gentle_same, gentle_fewer, in_call_begun, waits_calls, gentle_end_wait}
+use Rattle.rk_kernel.proofs.PartsSettledLemmas.{part_found, count_clusters, whole_kept, AreSettled, settled}
 use Rattle.rk_kernel.proofs.TimerLemmas.{timers_of, times-without_due}
 
 no_due : (tick : ℕ) (timers : List Armed) → due_at tick timers ≡ [] → without_due tick timers ≡ timers
@@ -147,13 +167,117 @@ fires_some k next c fired x some done told = subst (λ (xs : List Armed). FiresF
 pub expired : (k taken after : Plain) (c : ℕ) (x : Armed) → taken ≡ take_due k c → after ≡ rung taken x.who → after ≡ expire k c x.who
 expired k taken after c x is rings = rings ∙ ap (λ (n : Plain). rung n x.who) is
 
--- where a timer is taken out each thread has a home still
-pub homes_taken : (k taken : Plain) (c : ℕ) → IsSound k → taken ≡ take_due k c → (t : ℕ) → (thread_at taken t).home < length taken.clusters
-homes_taken k taken c sound is t =
-    let home = (bounds_at k t sound).home in
-    let size = length-set k.clusters c (record (cluster_at k c) { timers = without_due k.present (cluster_at k c).timers }) in
-    let here : (thread_at (take_due k c) t).home < length (take_due k c).clusters = rw size home in
-    subst (λ (n : Plain). (thread_at n t).home < length n.clusters) (sym is) here
+-- ---- the same of lent parts
+
+-- the timers that are due in the part of a cluster are those of the state
+pub due_lent : (all : AllParts) (c : ℕ) → IsReady all → c < length all.scenario.clusters → due_at (present_of all.clusters) (numbered [] all.clusters c).timers ≡ due_now (plain_of all) c
+due_lent all c ready known =
+    let found = part_found all c ready known in
+    ap (λ (x : ClusterState). due_at (present_of all.clusters) x.timers)
+    (numbered_found [] all.clusters c c found ∙ sym (numbered_found all.scenario.clusters all.clusters c c found) ∙ sym (cluster_numbered all.scenario.clusters all.clusters c known))
+
+-- the thread whose timer fires lives
+lives_due : (k : Plain) (c t : ℕ) (xs : List Armed) (x : Armed) → IsSound k → c < length k.clusters → due_now k c ≡ x ∷ xs → x.who ≡ OfThread t → has_begun (thread_at k t).life ≡ true
+lives_due k c t xs x sound within due whose =
+    let thread = thread_at k t in
+    in_call_begun thread.life (is_in_call thread.wait thread.finished) (waits_calls thread.wait thread.finished (fires k c t xs x sound within due whose).waits) (bounds_at k t sound).idle
+
+within_clusters : (all : AllParts) (c : ℕ) → c < length all.scenario.clusters → c < length (plain_of all).clusters
+within_clusters all c known = omega (arith, count_clusters all, known)
+
+pub due_lives : (all : AllParts) (taken : List ClusterPart) (c : ℕ) (x : Armed) → IsReady all → c < length all.scenario.clusters → Some x ≡ head_of (due_now (plain_of all) c) → TakesDue all.clusters c taken → HasLife taken x.who
+due_lives all taken c x ready known some takes = by x.who refl where
+  by : (who : Armer) → x.who ≡ who → HasLife taken who
+  by (OfThread t) whose =
+      let k = plain_of all in
+      let same : threads_of taken ≡ k.threads = ap (λ (n : Plain). n.threads) (takes.state all.scenario all.table.names all.groups known) in
+      ap (λ (ts : List Thread). has_begun (nth no_thread ts t).life) same ∙ lives_due k c t (rest_of (due_now k c)) x ready.sound (within_clusters all c known) (head_some (due_now k c) x some) whose
+
+-- A timer rings in lent parts where the wait of its thread ends.
+pub rings : (before after : List ClusterPart) (who : Armer) (t : ℕ) (thread : Thread) (reply : Reply) → who ≡ OfThread t → thread ≡ thread_lent before t → reply ≡ reply_at_timer thread.wait →
+    ((s : Scenario) → Becomes s (λ k. end_wait k t reply) before after) → (s : Scenario) → Becomes s (λ k. rung k who) before after
+rings before after who t thread reply whose is told ends s =
+    let same : reply ≡ reply_at_timer (thread_lent before t).wait = told ∙ ap (λ (x : Thread). reply_at_timer x.wait) is in
+    record {
+      state = λ table groups laid.
+          (ends s).state table groups laid ∙ ap (end_wait (joined s table before groups) t) same ∙ ap (rung (joined s table before groups)) (sym whose);
+      kept = (ends s).kept;
+    }
+
+-- a thread that lives in a part is the one that all of them hold
+held_here : (counts : List ℕ) (parts : List ClusterPart) (at t : ℕ) → Lie counts parts → lives_in (part_at parts at) t ≡ true → placed_in (part_at parts at) t ≡ thread_lent parts t
+held_here counts parts at t is lives = by (found_in parts t) refl where
+  by : (o : Option ℕ) → found_in parts t ≡ o → placed_in (part_at parts at) t ≡ thread_lent parts t
+  by None e = absurd (false≢true (sym (nowhere_lives parts at t e) ∙ lives))
+  by (Some i) e =
+      let here : i ≡ at = is.once i at t (found_lives parts i t e) lives in
+      ap (λ j. placed_in (part_at parts j) t) (sym here) ∙ sym (held_found parts i t e) ∙ sym (thread_any counts parts t is)
+
+-- parts that lie as before and have the same threads have them at the same places
+placed_same : (counts : List ℕ) (old new : List ClusterPart) (at t : ℕ) → AreLaid counts (layouts old) → layouts new ≡ layouts old → threads_of new ≡ threads_of old → placed_in (part_at new at) t ≡ placed_in (part_at old at) t
+placed_same counts old new at t laid lies same = by (lives_in (part_at old at) t) refl where
+  before : Lie counts old
+  before = lie counts old laid
+
+  after : Lie counts new
+  after = lie counts new (subst (AreLaid counts) (sym lies) laid)
+
+  alike : lives_in (part_at new at) t ≡ lives_in (part_at old at) t
+  alike = sym (lives_is new at t) ∙ ap (λ (ls : List Layout). lives_at (layout_at ls at) t) lies ∙ lives_is old at t
+
+  by : (b : Bool) → lives_in (part_at old at) t ≡ b → placed_in (part_at new at) t ≡ placed_in (part_at old at) t
+  by true e = held_here counts new at t after (alike ∙ e) ∙ ap (λ (ts : List Thread). nth no_thread ts t) same ∙ sym (held_here counts old at t before e)
+  by false e = after.blank at t (alike ∙ e) ∙ sym (before.blank at t e)
+
+places_same : (counts : List ℕ) (old new : List ClusterPart) (at : ℕ) → AreLaid counts (layouts old) → layouts new ≡ layouts old → threads_of new ≡ threads_of old → (part_at new at).threads.places ≡ (part_at old at).threads.places
+places_same counts old new at laid lies same = ⊎_elim inside past (cases_lt at (length old)) where
+  count : length new ≡ length old
+  count = sym (length-map new layout) ∙ ap (λ (ls : List Layout). length ls) lies ∙ length-map old layout
+
+  inside : at < length old → (part_at new at).threads.places ≡ (part_at old at).threads.places
+  inside less =
+      let before = (lie counts old laid).size at less in
+      let after = (lie counts new (subst (AreLaid counts) (sym lies) laid)).size at (omega (arith, less, count)) in
+      ext_get_or no_thread (part_at new at).threads.places (part_at old at).threads.places (after ∙ sym before) (λ i h. placed_same counts old new at (suc i) laid lies same)
+
+  past : length old ≤ at → (part_at new at).threads.places ≡ (part_at old at).threads.places
+  past more = ap (λ (p : ClusterPart). p.threads.places) (get_or_past new at no_part (omega (arith, more, count)) ∙ sym (get_or_past old at no_part more))
+
+-- Parts with the same frame and the same threads note them as before.
+noted_same : (counts : List ℕ) (old new : List ClusterPart) (count : ℕ) → AreLaid counts (layouts old) → frame new ≡ frame old → threads_of new ≡ threads_of old → AreNoted count old → AreNoted count new
+noted_same counts old new count laid kept same noted = record {
+  stood = λ at. ap (λ (x : Stored). x.stood) (here at) ∙ noted.stood at ∙ ap (λ (xs : List Thread). map own_standing xs) (sym (places_same counts old new at laid (ap (λ (f : Frame). f.layouts) kept) same));
+  keyed = λ at known. subst (λ (x : Stored). x.lined.number < count → IsKeyed (key_of x.stood) x.lined.line) (sym (here at)) (noted.keyed at) known;
+} where
+  here : (at : ℕ) → stored_in (part_at new at) ≡ stored_in (part_at old at)
+  here at = same_stored old new at (ap (λ (f : Frame). f.stored) kept)
+
+-- parts that stand for the same state, with the same frame, are ready as before
+pub ready_same : (all : AllParts) (new : List ClusterPart) → IsReady all → plain_of (record all { clusters = new }) ≡ plain_of all → frame new ≡ frame all.clusters → IsReady (record all { clusters = new })
+ready_same all new ready same kept = record {
+  whole = whole_kept all (record all { clusters = new }) ready.whole (ap (λ (n : Plain). n.present) same) kept refl;
+  sound = subst IsSound (sym same) ready.sound;
+  noted = noted_same all.scenario.clusters all.clusters new (length all.scenario.clusters) ready.whole.laid kept (ap (λ (n : Plain). n.threads) same) ready.noted;
+}
+
+-- The first timer that is due has fired in all parts, and they have settled.
+pub fired : (all : AllParts) (taken after new : List ClusterPart) (c : ℕ) (x : Armed) → IsReady all → c < length all.scenario.clusters → Some x ≡ head_of (due_now (plain_of all) c) → TakesDue all.clusters c taken → Becomes all.scenario (λ k. rung k x.who) taken after → map bare new ≡ map (settled_part []) after →
+    AreSettled all (record all { clusters = new }) (expire (plain_of all) c x.who) []
+fired all taken after new c x ready known some takes rings done =
+    let k = plain_of all in
+    let mid : AllParts = record all { clusters = after } in
+    let laid : AreLaid all.scenario.clusters (layouts taken) = subst (AreLaid all.scenario.clusters) (sym (ap (λ (f : Frame). f.layouts) takes.kept)) ready.whole.laid in
+    settled all mid new (expire k c x.who) [] ready
+    (record {
+      gentle = expire_gentle k c (rest_of (due_now k c)) x ready.sound (within_clusters all c known) (head_some (due_now k c) x some);
+      state = expired k (plain_of (record all { clusters = taken })) (plain_of mid) c x (takes.state all.scenario all.table.names all.groups known) (rings.state all.table.names all.groups laid);
+      laid = subst (AreLaid all.scenario.clusters) (sym (ap (λ (f : Frame). f.layouts) rings.kept)) laid;
+      kept = ap (λ (f : Frame). f.stored) (rings.kept ∙ takes.kept);
+      rest = refl;
+    })
+    done
+
+-- ---- how many are due
 
 -- one timer fewer is due
 pub fewer_due : (k next : Plain) (c : ℕ) → IsSound k → c < length k.clusters → FiresFirst c (due_now k c) k true next → (due_now k c ≡ [] → ⊥) × (length (due_now next c) < length (due_now k c)) × (fire_each next c (due_now next c) ≡ fire_each k c (due_now k c))

@@ -124,7 +124,8 @@ in_call_begun Dormant calls is idle = refl
 in_call_begun Started calls is idle = refl
 in_call_begun Ended calls is idle = refl
 
-waits_calls : (wait : Option Wait) (reply : Option Reply) → is_waiting wait ≡ true → is_in_call wait reply ≡ true
+-- one that waits is in a directive that waits
+pub waits_calls : (wait : Option Wait) (reply : Option Reply) → is_waiting wait ≡ true → is_in_call wait reply ≡ true
 waits_calls None reply h = absurd (false≢true h)
 waits_calls (Some w) reply h = refl
 

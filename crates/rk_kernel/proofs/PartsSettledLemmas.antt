@@ -1,15 +1,17 @@
 -- All parts after a gentle change, and after settling.
-use Rattle.std.proofs.Common.{◌≡◌, ℕ, ◌<◌, ◌≤◌, List, Some, length, map, refl, sym, ap, ◌∙◌, subst, arith}
+use Rattle.std.proofs.Common.{◌≡◌, ℕ, ◌<◌, ◌≤◌, List, Some, length, map, replicate, sym, ap, ◌∙◌, subst, arith}
+use Rattle.std.proofs.lemmas.List.{length-map}
 use Rattle.rk_model.specs.declared.scenario.Scenario.{Scenario}
 use Rattle.rk_model.specs.State.{Plain}
 use Rattle.rk_model.specs.Scheduling.Settling.{settle}
 use Rattle.rk_parts.specs.declared.parts.ClusterPart.{ClusterPart}
-use Rattle.rk_parts.specs.declared.parts.GroupPart.{GroupPart}
 use Rattle.rk_parts.specs.declared.parts.AllParts.{AllParts}
-use Rattle.rk_parts.specs.Joined.{plain_of}
-use Rattle.rk_parts.specs.Lent.{number_in, AreLaid, layouts, stored}
+use Rattle.rk_parts.specs.Joined.{present_of, plain_of}
+use Rattle.rk_parts.specs.Lent.{number_in, AreLaid, layouts, Stored, stored_in, stored, Frame, frame}
 use Rattle.rk_parts.specs.Noted.{settled_part, bare}
+use Rattle.rk_parts.specs.Whole.{AreWhole, ticks_of, ticks_in}
 use Rattle.rk_parts.proofs.PutLemmas.{length_clusters}
+use Rattle.rk_parts.proofs.SettledPartLemmas.{same_stored}
 use Rattle.rk_parts.proofs.WholeLemmas.{Keeps, lent_whole, whole_settled, plain_settled, all_noted_settled}
 use Rattle.rk_kernel.specs.Does.{Untouched, untouched}
 use Rattle.rk_kernel.specs.Ready.{IsReady}
@@ -28,6 +30,23 @@ count_clusters all = length_clusters all.scenario.clusters all.clusters
 -- and the part of each is found by its number
 pub part_found : (all : AllParts) (c : ℕ) → IsReady all → c < length all.scenario.clusters → number_in all.clusters c ≡ Some c
 part_found all c ready known = lent_whole all c ready.whole (few_clusters all ready) known
+
+-- All parts are whole still where they keep their frame and the present tick, and what no directive touches is as before.
+pub whole_kept : (old all : AllParts) → AreWhole old → present_of all.clusters ≡ present_of old.clusters → frame all.clusters ≡ frame old.clusters → untouched all ≡ untouched old → AreWhole all
+whole_kept old all whole present kept rest =
+    let lie : layouts all.clusters ≡ layouts old.clusters = ap (λ (f : Frame). f.layouts) kept in
+    let store : stored all.clusters ≡ stored old.clusters = ap (λ (f : Frame). f.stored) kept in
+    let same : all.scenario ≡ old.scenario = ap (λ (u : Untouched). u.scenario) rest in
+    record {
+      four = sym (length-map all.clusters stored_in) ∙ ap (λ (ss : List Stored). length ss) store ∙ length-map old.clusters stored_in ∙ whole.four;
+      numbers = λ c low. ap (λ (x : Stored). x.lined.number) (same_stored old.clusters all.clusters c store) ∙ whole.numbers c low;
+      laid = subst (λ (s : Scenario). AreLaid s.clusters (layouts all.clusters)) (sym same) (subst (AreLaid old.scenario.clusters) (sym lie) whole.laid);
+      time = record {
+        clusters = ap (λ (ss : List Stored). ticks_of ss) store ∙ whole.time.clusters ∙ ap (replicate 4) (sym present);
+        groups = ap (λ (u : Untouched). ticks_in u.groups) rest ∙ whole.time.groups ∙ ap (replicate 4) (sym present);
+        table = ap (λ (u : Untouched). u.time) rest ∙ whole.time.table ∙ sym present;
+      };
+    }
 
 -- All parts after a gentle change of the state: they are laid as parts of a state, and what they store and what no directive touches is as before.
 pub record IsChanged (before mid : AllParts) (next : Plain) : Type 0 where

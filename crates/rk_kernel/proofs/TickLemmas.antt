@@ -1,23 +1,22 @@
 -- A tick that passes keeps a state sound, before any timer fires.
-use Rattle.std.proofs.Common.{◌≡◌, ℕ, zero, suc, ◌+◌, ◌-◌, ◌<◌, ◌≤◌, List, [], ◌∷◌, Bool, true, false, cond, eqb, ◌||◌, ◌&&◌, not, Option, None, Some, length, get_or, arith, refl, ap, sym, ◌∙◌}
+use Rattle.std.proofs.Common.{◌≡◌, ℕ, zero, suc, ◌+◌, ◌-◌, ◌<◌, ◌≤◌, List, [], ◌∷◌, Bool, true, false, cond, eqb, ◌||◌, ◌&&◌, not, nat_lt, Option, None, Some, length, get_or, arith, refl, ap, sym, ◌∙◌}
 use Rattle.std.specs.List.{AllByRecursion, range_with_len}
 use Rattle.std.proofs.lemmas.Bool.Decides.{nat_tests}
-use Rattle.std.proofs.lemmas.List.{ext_get_or}
 use Rattle.std.proofs.lemmas.List.Elements.{filter_agree, All-from_recursion, recursion_from_All}
 use Rattle.rk_model.specs.declared.scenario.Scenario.{Scenario}
+use Rattle.rk_model.specs.declared.entry.What.TheVariants.{Tick, End}
 use Rattle.rk_model.specs.declared.state.Thread.{Thread}
 use Rattle.rk_model.specs.declared.state.Wait.{Wait}
 use Rattle.rk_model.specs.declared.state.Wait.TheVariants.{ForTime}
 use Rattle.rk_model.specs.Lists.{times}
 use Rattle.rk_model.specs.State.{Plain, ClusterState, no_thread, thread_at}
-use Rattle.rk_model.specs.Scheduling.Priorities.{is_eligible, is_started, is_no_wait, spins_in, standings, no_standing}
+use Rattle.rk_model.specs.Scheduling.Priorities.{is_eligible, is_started, is_no_wait, spins_in}
 use Rattle.rk_model.specs.declared.ids.Class.{Class}
 use Rattle.rk_model.specs.declared.ids.Class.TheVariants.{Task}
 use Rattle.rk_model.specs.Directives.Objects.{has_begun, begun_in}
-use Rattle.rk_parts.specs.Threads.{own_standing}
-use Rattle.rk_parts.proofs.StandingLemmas.{length-standings, standing_own, standings_say}
-use Rattle.rk_model.specs.Scheduling.Running.{runs_somewhere}
-use Rattle.rk_model.specs.Scheduling.Ticks.{charged, ticked, charge_from, pass}
+use Rattle.rk_model.specs.Scheduling.Running.{least, runs_somewhere}
+use Rattle.rk_model.specs.Scheduling.Ticks.{charged, ticked, charge_from, pass, tick}
+use Rattle.rk_model.specs.Steps.{clock_of, clock_entry}
 use Rattle.rk_model.specs.Limits.{AreRunnable}
 use Rattle.rk_kernel.specs.Sound.{IsSound, IsInBounds, AllSound, own, stands, waits_in, is_waiting}
 use Rattle.rk_model.specs.declared.state.Armer.TheVariants.{Thread as OfThread}
@@ -128,15 +127,6 @@ passed_none : (k : Plain) (t : ℕ) → thread_at k t ≡ no_thread → thread_a
 passed_none k zero none = refl
 passed_none k (suc i) none = charge_none k 1 k.threads i none
 
--- When a tick passes all threads stand as before.
-pub standings-pass : (k : Plain) → standings (pass k) ≡ standings k
-standings-pass k =
-    let size = length-charge_from k 1 k.threads in
-    let p = length-standings (pass k) 1 (length (pass k).threads) in
-    let q = length-standings k 1 (length k.threads) in
-    ext_get_or no_standing (standings (pass k)) (standings k) (omega (arith, p, q, size))
-    (λ i h. standings_say (pass k) (suc i) ∙ standing_own (pass k) (suc i) ∙ passed_steady own_standing k (suc i) (λ _ _ _ _. refl) ∙ sym (standings_say k (suc i) ∙ standing_own k (suc i)))
-
 -- A tick below the horizon keeps a state sound.
 pub sound_pass : (k : Plain) → IsSound k → k.present < k.scenario.horizon → IsSound (pass k)
 sound_pass k sound below = record {
@@ -155,3 +145,18 @@ sound_pass k sound below = record {
     blank = λ t none. passed_none k t (sound.named.blank t (sym (begun-pass k Task t) ∙ none));
   };
 }
+
+-- ---- what the clock of a quiet kernel does
+
+-- below the horizon it ticks,
+pub clock_ticks : (k next : Plain) → least k ≡ None → k.present < k.scenario.horizon → next ≡ tick k → clock_of k ≡ Some (record { entry = clock_entry Tick; next = next })
+clock_ticks k next quiet below passed =
+    let test : nat_lt k.present k.scenario.horizon ≡ true = grind (arith, nat_tests, below) in
+    rw (quiet, test, passed) refl
+
+-- and at the horizon it ends the run.
+pub clock_ends : (k : Plain) → least k ≡ None → k.present ≡ k.scenario.horizon → clock_of k ≡ Some (record { entry = clock_entry End; next = k })
+clock_ends k quiet there =
+    let below : nat_lt k.present k.scenario.horizon ≡ false = grind (arith, nat_tests, there) in
+    let test : eqb k.present k.scenario.horizon ≡ true = grind (arith, nat_tests, there) in
+    rw (quiet, below, test) refl

@@ -1,42 +1,81 @@
-use Rattle.std.proofs.Common.{rules, ◌<◌, ◌≤◌, arith, ap, sym, ◌∙◌, subst}
+use Rattle.std.proofs.Common.{rules, ◌<◌, ◌≤◌, arith, ap, sym, ◌∙◌, refl, subst}
 use Rattle.rk_model.specs.declared.state.Thread.{Thread}
-use Rattle.rk_model.specs.State.{Plain}
+use Rattle.rk_model.specs.Directives.Objects.{has_begun}
 use Rattle.rk_model.specs.Scheduling.Ticks.{charged}
-use Rattle.rk_parts.specs.Threads.{Threads}
-use Rattle.rk_parts.specs.Pinned.{Stored, linings}
-use Rattle.rk_parts.specs.Pieces.{plain_of}
+use Rattle.rk_parts.specs.Joined.{plain_of}
+use Rattle.rk_parts.proofs.LentSeatLemmas.{cpu_count_joined}
 use Rattle.rk_kernel.proofs.ThreadBoundsLemmas.{bounds_at}
-use Rattle.rk_kernel.proofs.ChargeLemmas.{uncharged, one_charged, none_more_charged, all_charged}
+use Rattle.rk_kernel.proofs.TickLemmas.{charged_steady}
+use Rattle.rk_kernel.proofs.ChargeLemmas.{laid_charged, uncharged, charged_lives, one_charged, none_more_charged, all_charged}
 use Rattle.rk_kernel.proofs.clock.charge_all.Goals as goal
 use Rattle.rk_kernel.proofs.clock.charge_all.Goals.{in-Runs, in_default}
 
+pub count_cpus-cpu-end-requires : goal.count_cpus-cpu-end-requires
+count_cpus-cpu-end-requires c =
+    let all = c.args.all.now in
+    omega (arith, c.requires.ready.sound.few_cpus, cpu_count_joined all.scenario all.table.names all.groups all.clusters c.requires.ready.whole.laid)
+
 pub charged-next-requires-clause-line : goal.charged-next-requires-clause-line
 charged-next-requires-clause-line c =
-    let k = plain_of c.args.core.now in
+    let old = c.args.all.now in
+    let all = c.loop-cpu.all in
+    let k = plain_of old in
     let u = c.in-Runs.thread in
-    let was = c.get.ensures ∙ uncharged k c.loop-cpu.cpu u c.loop-cpu.core c.args.core.now c.requires.once c.loop-cpu.invariant (sym c.in-Runs.is ∙ c.view_on.ensures) in
-    subst (λ (x : Thread). 0 < x.left → x.line ≤ 1000) (sym was) (bounds_at k u c.requires.sound).working
+    let does = c.view_on.ensures all.scenario all.table.names all.groups (laid_charged k c.loop-cpu.cpu all old c.requires.ready.whole.laid c.loop-cpu.invariant) in
+    let was = c.thread_of.ensures ∙ uncharged k c.loop-cpu.cpu u all old c.requires.once c.loop-cpu.invariant (sym c.in-Runs.is ∙ does) in
+    subst (λ (x : Thread). 0 < x.left → x.line ≤ 1000) (sym was) (bounds_at k u c.requires.ready.sound).working
 
 pub charged-next-requires-clause-computed : goal.charged-next-requires-clause-computed
 charged-next-requires-clause-computed c =
-    let k = plain_of c.args.core.now in
+    let old = c.args.all.now in
+    let all = c.loop-cpu.all in
+    let k = plain_of old in
     let u = c.in-Runs.thread in
-    let was = c.get.ensures ∙ uncharged k c.loop-cpu.cpu u c.loop-cpu.core c.args.core.now c.requires.once c.loop-cpu.invariant (sym c.in-Runs.is ∙ c.view_on.ensures) in
-    omega (arith, ap (λ (x : Thread). x.computed) was, (bounds_at k u c.requires.sound).computed, c.requires.sound.present, c.requires.sound.horizon)
+    let does = c.view_on.ensures all.scenario all.table.names all.groups (laid_charged k c.loop-cpu.cpu all old c.requires.ready.whole.laid c.loop-cpu.invariant) in
+    let was = c.thread_of.ensures ∙ uncharged k c.loop-cpu.cpu u all old c.requires.once c.loop-cpu.invariant (sym c.in-Runs.is ∙ does) in
+    let sound = c.requires.ready.sound in
+    omega (arith, ap (λ (x : Thread). x.computed) was, (bounds_at k u sound).computed, sound.present, sound.horizon)
+
+pub renew-requires-clause-lives : goal.renew-requires-clause-lives
+renew-requires-clause-lives c =
+    let old = c.args.all.now in
+    let all = c.loop-cpu.all in
+    let k = plain_of old in
+    let does = c.view_on.ensures all.scenario all.table.names all.groups (laid_charged k c.loop-cpu.cpu all old c.requires.ready.whole.laid c.loop-cpu.invariant) in
+    charged_lives k c.loop-cpu.cpu c.in-Runs.thread all old c.requires.ready.sound c.requires.once c.loop-cpu.invariant (sym c.in-Runs.is ∙ does)
+
+pub renew-requires-clause-life : goal.renew-requires-clause-life
+renew-requires-clause-life c =
+    let old = c.args.all.now in
+    let all = c.loop-cpu.all in
+    let k = plain_of old in
+    let does = c.view_on.ensures all.scenario all.table.names all.groups (laid_charged k c.loop-cpu.cpu all old c.requires.ready.whole.laid c.loop-cpu.invariant) in
+    let lives = charged_lives k c.loop-cpu.cpu c.in-Runs.thread all old c.requires.ready.sound c.requires.once c.loop-cpu.invariant (sym c.in-Runs.is ∙ does) in
+    ap (λ (x : Thread). has_begun x.life) c.charged-next.ensures
+    ∙ charged_steady (λ (x : Thread). has_begun x.life) all.scenario c.thread_of.result (λ _ _ _ _. refl)
+    ∙ ap (λ (x : Thread). has_begun x.life) c.thread_of.ensures ∙ lives
 
 pub loop-cpu-preserved : goal.loop-cpu-preserved
 loop-cpu-preserved c =
-    let k = plain_of c.args.core.now in
-    let core = c.loop-cpu.core in
+    let old = c.args.all.now in
+    let all = c.loop-cpu.all in
+    let k = plain_of old in
+    let p = c.loop-cpu.cpu in
+    let does = c.view_on.ensures all.scenario all.table.names all.groups (laid_charged k p all old c.requires.ready.whole.laid c.loop-cpu.invariant) in
     elim c.match-view_on.branch [
       | in-Runs w ↦
-          rw w.core-is
-          (one_charged k c.loop-cpu.cpu w.in-Runs.thread core (record core { threads = w.renew.new.self }) c.args.core.now w.charged-next.result c.requires.once c.requires.sound.places c.loop-cpu.invariant (sym w.in-Runs.is ∙ c.view_on.ensures) (omega arith) (omega arith)
-          (w.charged-next.ensures ∙ ap (charged core.scenario) w.get.ensures)
-          (ap (λ (t : Threads). (let n : Plain = record (plain_of core) { threads = t.places } in n)) w.renew.ensures)
-          (ap (λ (t : Threads). (let s : Stored = record { clusters = linings core.clusters; stood = t.stood } in s)) w.renew.ensures))
-      | in_default w ↦ rw w.core-is (none_more_charged k c.loop-cpu.cpu core c.args.core.now c.view_on.result c.loop-cpu.invariant c.view_on.ensures (λ u is. w.in_default.not-Runs u is))
+          rw w.all-is
+          (one_charged k p w.in-Runs.thread all (record all { clusters = w.renew.new.clusters }) old w.charged-next.result c.requires.once c.requires.ready.sound.places c.loop-cpu.invariant (sym w.in-Runs.is ∙ does) (omega arith) (omega arith)
+          (w.charged-next.ensures ∙ ap (charged all.scenario) w.thread_of.ensures)
+          (w.renew.ensures.puts.state all.scenario all.table.names all.groups)
+          w.renew.ensures.puts.kept
+          (w.renew.ensures.noted _ c.loop-cpu.invariant.noted)
+          refl)
+      | in_default w ↦ rw w.all-is (none_more_charged k p all old c.view_on.result c.loop-cpu.invariant does (λ u is. w.in_default.not-Runs u is))
     ]
 
 pub returns-clause-charged : goal.returns-clause-charged
-returns-clause-charged c = all_charged (plain_of c.args.core.now) c.loop-cpu.cpu c.loop-cpu.core c.args.core.now (search rules) c.loop-cpu.invariant
+returns-clause-charged c =
+    let old = c.args.all.now in
+    let count = cpu_count_joined old.scenario old.table.names old.groups old.clusters c.requires.ready.whole.laid in
+    all_charged (plain_of old) c.loop-cpu.cpu c.loop-cpu.all old (search rules) c.loop-cpu.invariant
