@@ -10,7 +10,9 @@ pub mod SoundSettlingLemmas
 pub mod CallerLemmas
 pub mod InitNamesLemmas
 pub mod OpeningLemmas
+pub mod VacantPartLemmas
 pub mod PartsSettledLemmas
+pub mod OpenedPartLemmas
 pub mod TickLemmas
 pub mod ChargeLemmas
 pub mod FiringLemmas

@@ -1,7 +1,8 @@
--- The opening state is sound: it is the state with no task yet, changed gently and settled.
-use Rattle.std.proofs.Common.{◌≡◌, add-one, ℕ, zero, suc, ◌+◌, ◌<◌, ◌≤◌, List, [], ◌∷◌, false, ◌==◌, Option, None, length, get_or, length-append, length-take, ◌++◌, take, drop, map, replicate, arith, refl, ap, sym, ◌∙◌, append_assoc}
+-- The opening state is sound: it is the state with no task yet, changed gently and settled. How its tasks are started one after another.
+use Rattle.std.proofs.Common.{◌≡◌, ℕ, zero, suc, ◌+◌, ◌<◌, ◌≤◌, List, [], ◌∷◌, false, ◌==◌, Option, None, Some, length, get_or, length-append, length-take, ◌++◌, take, map, replicate, arith, refl, ap, sym, ◌∙◌}
+use Rattle.std.specs.Bool.{if◌then◌else◌}
 use Rattle.std.specs.List.{AllByRecursion, range_with_len, slice_set}
-use Rattle.std.proofs.lemmas.List.{length-replicate, length-map, map-append, take_more, drop_more, map_push}
+use Rattle.std.proofs.lemmas.List.{length-replicate, length-map, map-append, take_more, take_all}
 use Rattle.std.proofs.lemmas.List.Elements.{All-from_recursion}
 use Rattle.std.proofs.lemmas.Bool.{false≢true}
 use Rattle.rk_model.specs.declared.scenario.Scenario.{Scenario}
@@ -9,13 +10,19 @@ use Rattle.rk_model.specs.declared.scenario.Init.{Init}
 use Rattle.rk_model.specs.declared.state.Life.TheVariants.{Started}
 use Rattle.rk_model.specs.declared.state.Thread.{Thread}
 use Rattle.rk_model.specs.Lists.{nth, with_nth, times}
-use Rattle.rk_model.specs.State.{Plain, ClusterState, no_thread, thread_at}
-use Rattle.rk_model.specs.Scheduling.Priorities.{is_eligible, standings, no_standing}
+use Rattle.rk_model.specs.Names.{Table, no_objects}
+use Rattle.rk_model.specs.Directives.Objects.{has_begun}
+use Rattle.rk_model.specs.State.{Plain, no_thread, thread_at, put_thread}
+use Rattle.rk_model.specs.Scheduling.Priorities.{is_eligible}
 use Rattle.rk_model.specs.Scheduling.ReadyQueues.{has_cpu}
 use Rattle.rk_model.specs.Scheduling.Running.{all_cpus}
 use Rattle.rk_model.specs.Histories.{begun, places, free_cluster, vacant, started, opening}
 use Rattle.rk_model.specs.Text.Scenarios.{cpus_in}
 use Rattle.rk_model.specs.Limits.{IsWithinLimits}
+use Rattle.rk_parts.specs.declared.parts.ClusterPart.{ClusterPart}
+use Rattle.rk_parts.specs.declared.parts.GroupPart.{GroupPart}
+use Rattle.rk_parts.specs.Joined.{joined, thread_lent}
+use Rattle.rk_parts.specs.Lent.{number_in, one_more, Stored, stored}
 use Rattle.rk_kernel.proofs.InitNamesLemmas.{named_vacant, named_begun}
 use Rattle.rk_kernel.proofs.ThreadBoundsLemmas.{none_bounds, arrived_bounds}
 use Rattle.rk_kernel.specs.Sound.{stands, own, AllSound, IsInBounds, IsSound, AllTimed, IsGentle}
@@ -140,3 +147,60 @@ started_more s threads threads' thread init at within few is made set told =
     let more : map (begun s) (take (at + 1) s.inits) ≡ front ++ begun s init ∷ [] =
     ap (map (begun s)) (take_more s.inits at init within) ∙ map-append (begun s) (take at s.inits) (get_or s.inits at init ∷ []) ∙ ap (λ x. front ++ begun s x ∷ []) (sym is) in
     set ∙ with_next threads at thread ∙ ap (λ ts. slice_set ts at thread) told ∙ ap (slice_set (places 64 front) at) made ∙ places-push 64 front (begun s init) at size (omega arith) ∙ ap (places 64) (sym more)
+
+-- behind the first places there is no thread
+place_free : (n : ℕ) (threads : List Thread) (at : ℕ) → length threads ≤ at → get_or (places n threads) at no_thread ≡ no_thread
+place_free zero threads at few = refl
+place_free (suc n) [] zero few = refl
+place_free (suc n) [] (suc at) few = no_place_from n at
+place_free (suc n) (x ∷ xs) zero few = absurd (omega (arith, few))
+place_free (suc n) (x ∷ xs) (suc at) few = place_free n xs at (omega (arith, few))
+
+-- ---- the parts in which tasks of init lines are started
+
+-- the state of some parts in which the tasks of so many init lines are started
+abbrev pub begun_in_parts : Scenario → Table → List ClusterPart → List GroupPart → ℕ → Plain
+begun_in_parts s table parts groups at = record (joined s table parts groups) { threads = places 64 (map (begun s) (take at s.inits)) }
+
+-- the next task lives nowhere yet,
+pub not_begun : (s : Scenario) (old parts : List ClusterPart) (at index : ℕ) → index ≡ at + 1 → ((table : Table) (groups : List GroupPart) → joined s table parts groups ≡ begun_in_parts s table old groups at) → has_begun (thread_lent parts index).life ≡ false
+not_begun s old parts at index is told =
+    let behind : at + 1 ≡ suc at = omega arith in
+    let front = map (begun s) (take at s.inits) in
+    let few : length front ≤ at = omega (arith, length-map (take at s.inits) (begun s), length-take at s.inits) in
+    let none : thread_lent parts index ≡ no_thread =
+    ap (thread_lent parts) (is ∙ behind) ∙ ap (λ (k : Plain). thread_at k (suc at)) (told no_objects []) ∙ place_free 64 front at few in
+    ap (λ (x : Thread). has_begun x.life) none
+
+-- its home is one of the clusters,
+pub home_known : (s : Scenario) (init : Init) (at : ℕ) (thread : Thread) → IsWithinLimits s → at < length s.inits → init ≡ get_or s.inits at init → thread ≡ begun s init → thread.home < length s.clusters
+home_known s init at thread within less is made =
+    let known = All-from_recursion (λ (x : Init). x.cluster < length s.clusters) s.inits within.homes at init less in
+    let home : thread.home ≡ init.cluster = ap (λ (x : Thread). x.home) made in
+    let same : init.cluster ≡ (get_or s.inits at init).cluster = ap (λ (x : Init). x.cluster) is in
+    omega (arith, known, home, same)
+
+-- whose part is found as long as the parts store the same,
+abbrev numbers_in : List Stored → ℕ → Option ℕ
+numbers_in [] c = None
+numbers_in (x ∷ xs) c = if x.lined.number == c then Some 0 else one_more (numbers_in xs c)
+
+numbers_stored : (parts : List ClusterPart) (c : ℕ) → numbers_in (stored parts) c ≡ number_in parts c
+numbers_stored [] c = refl
+numbers_stored (p ∷ ps) c = ap (λ r. if p.lined.number == c then Some 0 else one_more r) (numbers_stored ps c)
+
+pub number_kept : (old new : List ClusterPart) (c : ℕ) → stored new ≡ stored old → number_in new c ≡ number_in old c
+number_kept old new c e = sym (numbers_stored new c) ∙ ap (λ (ss : List Stored). numbers_in ss c) e ∙ numbers_stored old c
+
+-- and then it is started.
+pub started_next : (s : Scenario) (table : Table) (groups : List GroupPart) (old parts next : List ClusterPart) (index : ℕ) (thread : Thread) (init : Init) (at : ℕ) → at < length s.inits → length s.inits ≤ 64 → init ≡ get_or s.inits at init → thread ≡ begun s init → index ≡ at + 1 →
+    joined s table next groups ≡ put_thread (joined s table parts groups) index thread → joined s table parts groups ≡ begun_in_parts s table old groups at → joined s table next groups ≡ begun_in_parts s table old groups (at + 1)
+started_next s table groups old parts next index thread init at within few is made place put told =
+    let front = places 64 (map (begun s) (take at s.inits)) in
+    put ∙ ap (λ k. put_thread k index thread) told
+    ∙ ap (λ (ts : List Thread). (let k : Plain = record (joined s table old groups) { threads = ts } in k)) (started_more s front (with_nth front index thread) thread init at within few is made (ap (λ i. with_nth front i thread) place) refl)
+
+-- At the end the tasks of all init lines are started.
+pub started_all : (s : Scenario) (table : Table) (groups : List GroupPart) (old parts : List ClusterPart) (at : ℕ) → length s.inits ≤ at → joined s table parts groups ≡ begun_in_parts s table old groups at → joined s table parts groups ≡ (let k : Plain = record (joined s table old groups) { threads = places 64 (map (begun s) s.inits) } in k)
+started_all s table groups old parts at whole told =
+    told ∙ ap (λ (inits : List Init). (let k : Plain = record (joined s table old groups) { threads = places 64 (map (begun s) inits) } in k)) (take_all at s.inits whole)

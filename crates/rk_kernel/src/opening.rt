@@ -115,10 +115,22 @@ fn make_vacant(alloc: Global, scenario: &Scenario) -> Result<AllParts, NoMemory>
         scenario: copy_scenario(alloc, scenario)?,
         clusters,
         groups: [
-            GroupPart { number: 0, present: 0 },
-            GroupPart { number: 1, present: 0 },
-            GroupPart { number: 2, present: 0 },
-            GroupPart { number: 3, present: 0 },
+            GroupPart {
+                number: 0,
+                present: 0,
+            },
+            GroupPart {
+                number: 1,
+                present: 0,
+            },
+            GroupPart {
+                number: 2,
+                present: 0,
+            },
+            GroupPart {
+                number: 3,
+                present: 0,
+            },
         ],
         table: TablePart {
             present: 0,

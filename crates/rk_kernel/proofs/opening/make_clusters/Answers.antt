@@ -1,20 +1,15 @@
-use Rattle.std.proofs.Common.{arith}
-use Rattle.rk_kernel.proofs.OpeningLemmas.{first_within, first_more, made_more, lined_more}
+use Rattle.std.proofs.Common.{◌+◌, [], ◌∷◌, refl}
+use Rattle.rk_kernel.proofs.VacantPartLemmas.{made_part, next_first, second_first}
 use Rattle.rk_kernel.proofs.opening.make_clusters.Goals as goal
 
-pub make_cluster-requires-clause-cpus : goal.make_cluster-requires-clause-cpus
-make_cluster-requires-clause-cpus c =
-    let few = first_within c.args.counts.now c.loop-at.at (omega arith) in
-    omega (arith, few, c.loop-at.invariant.first, c.requires.cpus)
-
-pub overflow_add-first : goal.overflow_add-first
-overflow_add-first c =
-    let few = first_within c.args.counts.now c.loop-at.at (omega arith) in
-    omega (arith, few, c.loop-at.invariant.first, c.requires.cpus)
-
-pub loop-at-preserved : goal.loop-at-preserved
-loop-at-preserved c = record {
-  first = first_more c.args.counts.now c.loop-at.at c.loop-at.first (omega arith) c.loop-at.invariant.first;
-  made = made_more c.args.counts.now c.loop-at.at _ _ _ (omega arith) c.in_ok-push.ensures.items c.in_ok-make_cluster.ensures.made c.loop-at.invariant.made;
-  lined = lined_more c.args.counts.now c.loop-at.at c.loop-at.first _ _ _ _ (omega arith) c.in_ok-push.ensures.items c.in_ok-make_cluster.ensures.lined c.loop-at.invariant.lined;
-}
+pub returns : goal.returns
+returns c =
+    let counts = c.args.counts.now in
+    let second = second_first counts c.count_at-second.result c.count_at-second.ensures in
+    let third = next_first counts 1 c.count_at-second.result c.count_at.result second c.count_at.ensures in
+    let fourth = next_first counts 2 (c.count_at-second.result + c.count_at.result) c.count_at-2.result third c.count_at-2.ensures in
+    let a = made_part counts 0 0 c.count_at-second.result c.in_ok-make_cluster.field-0 refl c.count_at-second.ensures c.in_ok-make_cluster.ensures in
+    let b = made_part counts 1 c.count_at-second.result c.count_at-3.result c.in_ok-make_cluster-2.field-0 second c.count_at-3.ensures c.in_ok-make_cluster-2.ensures in
+    let d = made_part counts 2 (c.count_at-second.result + c.count_at.result) c.count_at-4.result c.in_ok-make_cluster-3.field-0 third c.count_at-4.ensures c.in_ok-make_cluster-3.ensures in
+    let e = made_part counts 3 (c.count_at-second.result + c.count_at.result + c.count_at-2.result) c.count_at-5.result c.in_ok-make_cluster-4.field-0 fourth c.count_at-5.ensures c.in_ok-make_cluster-4.ensures in
+    λ i. a i ∷ b i ∷ d i ∷ e i ∷ []

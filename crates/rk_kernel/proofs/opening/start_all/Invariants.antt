@@ -1,9 +1,14 @@
-use Rattle.std.proofs.Common.{◌≡◌, take, map}
+use Rattle.std.proofs.Common.{◌≡◌, List, take, map}
+use Rattle.rk_model.specs.Names.{Table}
 use Rattle.rk_model.specs.Histories.{begun, places}
+use Rattle.rk_parts.specs.declared.parts.GroupPart.{GroupPart}
+use Rattle.rk_parts.specs.Joined.{joined}
+use Rattle.rk_parts.specs.Lent.{layouts, stored, AreLaid}
 use Rattle.rk_kernel.proofs.opening.start_all.Given as goal
 
 abbrev pub invariant-loop-at : goal.invariant-loop-at
 invariant-loop-at l = record {
-  started : l.threads.places ≡ places 64 (map (begun l.scenario) (take l.at l.scenario.inits));
-  stood : l.threads.stood ≡ l.fn.threads.stood;
+  started : (table : Table) (groups : List GroupPart) → joined l.scenario table l.clusters groups ≡ record (joined l.scenario table l.fn.clusters groups) { threads = places 64 (map (begun l.scenario) (take l.at l.scenario.inits)) };
+  laid : AreLaid l.scenario.clusters (layouts l.clusters);
+  kept : stored l.clusters ≡ stored l.fn.clusters;
 }

@@ -1,0 +1,200 @@
+-- The parts of a state in which there is no task yet.
+use Rattle.std.proofs.Common.{◌≡◌, ℕ, zero, suc, ◌+◌, ◌<◌, ◌≤◌, List, [], ◌∷◌, true, false, None, length, map, take, replicate, get_or, arith, refl, sym, ap, ◌∙◌, subst, ⊎_elim}
+use Rattle.std.proofs.lemmas.Bool.{false≢true, cases_lt}
+use Rattle.std.proofs.lemmas.List.{length-replicate, length-map, get_or-map, get_or_past, ext_get_or}
+use Rattle.rk_model.specs.declared.scenario.Scenario.{Scenario}
+use Rattle.rk_model.specs.declared.settling.Standing.{Standing}
+use Rattle.rk_model.specs.declared.state.Thread.{Thread}
+use Rattle.rk_model.specs.State.{no_thread}
+use Rattle.rk_model.specs.Directives.Objects.{has_begun}
+use Rattle.rk_model.specs.Scheduling.Priorities.{no_standing}
+use Rattle.rk_model.specs.Histories.{places, free_cluster, vacant}
+use Rattle.rk_model.specs.Text.Scenarios.{cpus_in}
+use Rattle.rk_model.specs.Names.{no_objects}
+use Rattle.rk_parts.specs.declared.parts.ClusterPart.{ClusterPart}
+use Rattle.rk_parts.specs.declared.parts.AllParts.{AllParts}
+use Rattle.rk_parts.specs.Threads.{own_standing}
+use Rattle.rk_parts.specs.Joined.{listed, cluster_of, placed_in, lives_in, held, numbered, present_of, threads_of, clusters_of, plain_of}
+use Rattle.rk_parts.specs.Lent.{AreLaid, layouts, stored}
+use Rattle.rk_parts.specs.Noted.{no_part, part_at, standings_in, key_of, IsKeyed, AreNoted, bare}
+use Rattle.rk_parts.specs.Whole.{ticks_of, ticks_in, AreWhole}
+use Rattle.rk_parts.proofs.ListedLemmas.{length-listed, get_or-listed}
+use Rattle.rk_parts.proofs.HeldLemmas.{held_nowhere, lives_nowhere, no_part_lives}
+use Rattle.rk_parts.proofs.LayoutLemmas.{Lie, laid}
+use Rattle.rk_parts.proofs.LentTimerLemmas.{numbered_found}
+use Rattle.rk_parts.proofs.MarkLemmas.{nth_replicate}
+use Rattle.rk_parts.proofs.WholeLemmas.{lent_all}
+use Rattle.rk_kernel.specs.Made.{vacant_part, vacant_in, vacant_parts}
+
+-- ---- the processors in front of a cluster
+
+-- the processors in front of the next cluster are those in front of one and its own
+cpus_more : (counts : List ℕ) (i : ℕ) → cpus_in (take (suc i) counts) ≡ cpus_in (take i counts) + get_or counts i 0
+cpus_more [] zero = refl
+cpus_more [] (suc i) = refl
+cpus_more (m ∷ counts) zero = omega arith
+cpus_more (m ∷ counts) (suc i) = omega (arith, cpus_more counts i)
+
+-- A part that was made is that of its cluster, where its first processor is the one behind those in front.
+pub made_part : (counts : List ℕ) (number first count : ℕ) (part : ClusterPart) → first ≡ cpus_in (take number counts) → count ≡ get_or counts number 0 → bare part ≡ vacant_part number first count → bare part ≡ vacant_in counts number
+made_part counts number first count part is_first is_count made = made ∙ ap (λ n. vacant_part number n count) is_first ∙ ap (vacant_part number (cpus_in (take number counts))) is_count
+
+-- the first processor of the next cluster
+pub next_first : (counts : List ℕ) (number first count : ℕ) → first ≡ cpus_in (take number counts) → count ≡ get_or counts number 0 → first + count ≡ cpus_in (take (suc number) counts)
+next_first counts number first count is_first is_count = omega (arith, is_first, is_count, cpus_more counts number)
+
+-- the second cluster has the processors behind those of the first
+pub second_first : (counts : List ℕ) (count : ℕ) → count ≡ get_or counts 0 0 → count ≡ cpus_in (take 1 counts)
+second_first counts count is_count = omega (arith, is_count, cpus_more counts 0)
+
+-- ---- what stands in the vacant parts
+
+-- These are the parts of all clusters, of so many processors each, and no thread stands in them.
+pub record AreVacant (counts : List ℕ) (parts : List ClusterPart) : Type 0 where
+  pub four : length parts ≡ 4
+  pub each : (c : ℕ) → c < 4 → bare (part_at parts c) ≡ vacant_in counts c
+
+bare_at : (parts : List ClusterPart) (i : ℕ) → get_or (map bare parts) i no_part ≡ bare (part_at parts i)
+bare_at [] i = refl
+bare_at (p ∷ ps) zero = refl
+bare_at (p ∷ ps) (suc i) = bare_at ps i
+
+in_vacant : (counts : List ℕ) (c : ℕ) → c < 4 → get_or (vacant_parts counts) c no_part ≡ vacant_in counts c
+in_vacant counts zero low = refl
+in_vacant counts (suc zero) low = refl
+in_vacant counts (suc (suc zero)) low = refl
+in_vacant counts (suc (suc (suc zero))) low = refl
+in_vacant counts (suc (suc (suc (suc c)))) low = absurd (omega (arith, low))
+
+are_vacant : (counts : List ℕ) (parts : List ClusterPart) → map bare parts ≡ vacant_parts counts → AreVacant counts parts
+are_vacant counts parts made = record {
+  four = sym (length-map parts bare) ∙ ap (λ (ps : List ClusterPart). length ps) made;
+  each = λ c low. sym (bare_at parts c) ∙ ap (λ (ps : List ClusterPart). get_or ps c no_part) made ∙ in_vacant counts c low;
+}
+
+-- at each place there is a vacant part, or none
+by_part : (counts : List ℕ) (parts : List ClusterPart) (P : ClusterPart → Type 0) (at : ℕ) → AreVacant counts parts → P (vacant_in counts at) → P no_part → P (bare (part_at parts at))
+by_part counts parts P at vacant here past =
+    ⊎_elim (λ low. subst P (sym (vacant.each at low)) here) (λ high. subst (λ (p : ClusterPart). P (bare p)) (sym (get_or_past parts at no_part (omega (arith, high, vacant.four)))) past) (cases_lt at 4)
+
+-- no thread stands anywhere,
+none_placed : (counts : List ℕ) (parts : List ClusterPart) (at t : ℕ) → AreVacant counts parts → placed_in (part_at parts at) t ≡ no_thread
+none_placed counts parts at t vacant = by_part counts parts (λ p. placed_in p t ≡ no_thread) at vacant (nth_replicate no_thread 64 t) (no_part_lives t)
+
+none_lives : (counts : List ℕ) (parts : List ClusterPart) (at t : ℕ) → AreVacant counts parts → lives_in (part_at parts at) t ≡ false
+none_lives counts parts at t vacant = ap (λ (x : Thread). has_begun x.life) (none_placed counts parts at t vacant)
+
+-- nor is one held
+none_held : (counts : List ℕ) (parts : List ClusterPart) (t : ℕ) → AreVacant counts parts → held parts t ≡ no_thread
+none_held counts parts t vacant = held_nowhere parts t (lives_nowhere parts t (λ at. none_lives counts parts at t vacant))
+
+listed_none : (f : ℕ → Thread) (a n : ℕ) → ((t : ℕ) → f t ≡ no_thread) → listed f a n ≡ places n []
+listed_none f a zero none = refl
+listed_none f a (suc n) none = ap (λ x. x ∷ listed f (a + 1) n) (none a) ∙ ap (λ xs. no_thread ∷ xs) (listed_none f (a + 1) n none)
+
+threads_vacant : (counts : List ℕ) (parts : List ClusterPart) → AreVacant counts parts → threads_of parts ≡ places 64 []
+unfolding threads_of
+threads_vacant counts parts vacant = listed_none (held parts) 1 64 (λ t. none_held counts parts t vacant)
+
+-- each part is that of its cluster
+number_vacant : (counts : List ℕ) (parts : List ClusterPart) (c : ℕ) → AreVacant counts parts → c < 4 → (part_at parts c).lined.number ≡ c
+number_vacant counts parts c vacant low = ap (λ (p : ClusterPart). p.lined.number) (vacant.each c low)
+
+-- Vacant parts are laid as parts of a state.
+lie_vacant : (counts : List ℕ) (parts : List ClusterPart) → AreVacant counts parts → Lie counts parts
+lie_vacant counts parts vacant = record {
+  apart = λ i j hi hj e. sym (number i (low i hi)) ∙ e ∙ number j (low j hj);
+  once = λ i j t a b. absurd (never i t a);
+  home = λ i t h. absurd (never i t h);
+  known = λ i t h. absurd (never i t h);
+  blank = λ i t h. none_placed counts parts i t vacant;
+  size = λ i h. ap (λ (p : ClusterPart). length p.threads.places) (vacant.each i (low i h)) ∙ length-replicate 64 no_thread;
+  count = λ i h. ap (λ (p : ClusterPart). length p.lined.cpus) (vacant.each i (low i h)) ∙ length-replicate (get_or counts i 0) None ∙ ap (λ n. get_or counts n 0) (sym (number i (low i h)));
+  first = λ i h k. ap (λ (p : ClusterPart). p.lined.first) (vacant.each i (low i h)) ∙ ap (λ n. cpus_in (take n counts)) (sym (number i (low i h)));
+} where
+  low : (i : ℕ) → i < length parts → i < 4
+  low i h = omega (arith, h, vacant.four)
+
+  number : (i : ℕ) → i < 4 → (part_at parts i).lined.number ≡ i
+  number i h = number_vacant counts parts i vacant h
+
+  never : (i t : ℕ) → lives_in (part_at parts i) t ≡ true → ⊥
+  never i t h = false≢true (sym (none_lives counts parts i t vacant) ∙ h)
+
+-- They stand for free clusters.
+cluster_vacant : (counts : List ℕ) (parts : List ClusterPart) (c : ℕ) → AreVacant counts parts → length counts ≤ 4 → c < length counts → numbered counts parts c ≡ free_cluster (get_or counts c 0)
+cluster_vacant counts parts c vacant few known =
+    let found = lent_all counts parts c vacant.four (λ i low. number_vacant counts parts i vacant low) (laid counts parts (lie_vacant counts parts vacant)) few known in
+    numbered_found counts parts c c found ∙ ap (λ (p : ClusterPart). cluster_of p) (vacant.each c (omega (arith, few, known)))
+
+clusters_vacant : (counts : List ℕ) (parts : List ClusterPart) → AreVacant counts parts → length counts ≤ 4 → clusters_of counts parts ≡ map free_cluster counts
+unfolding clusters_of
+clusters_vacant counts parts vacant few =
+    ext_get_or (free_cluster 0) (listed (numbered counts parts) 0 (length counts)) (map free_cluster counts) (length-listed (numbered counts parts) 0 (length counts) ∙ sym (length-map counts free_cluster))
+    (λ i h.
+    let less : i < length counts = rw length-listed at h in
+    let e : 0 + i ≡ i = omega arith in
+    get_or-listed (numbered counts parts) 0 (length counts) i (free_cluster 0) less ∙ ap (numbered counts parts) e
+    ∙ cluster_vacant counts parts i vacant few less ∙ sym (get_or-map free_cluster counts i 0 (free_cluster 0) less))
+
+-- It is noted that no thread stands.
+standings_none : (n : ℕ) → replicate n no_standing ≡ map own_standing (replicate n no_thread)
+standings_none zero = refl
+standings_none (suc n) = ap (λ (xs : List Standing). no_standing ∷ xs) (standings_none n)
+
+noted_vacant : (count : ℕ) (counts : List ℕ) (parts : List ClusterPart) → AreVacant counts parts → AreNoted count parts
+noted_vacant count counts parts vacant = record {
+  stood = λ at. by_part counts parts (λ (p : ClusterPart). p.threads.stood ≡ standings_in p) at vacant (standings_none 64) refl;
+  keyed = λ at known. by_part counts parts (λ (p : ClusterPart). IsKeyed (key_of p.threads.stood) p.lined.line) at vacant tt tt;
+}
+
+-- ---- the parts that were made
+
+present_bare : (parts : List ClusterPart) → present_of (map bare parts) ≡ present_of parts
+present_bare [] = refl
+present_bare (p ∷ ps) = refl
+
+ticks_bare : (parts : List ClusterPart) → ticks_of (stored (map bare parts)) ≡ ticks_of (stored parts)
+ticks_bare [] = refl
+ticks_bare (p ∷ ps) = ap (λ ts. p.present ∷ ts) (ticks_bare ps)
+
+-- All parts as they are made, where no task was started yet.
+pub record AreMade (s : Scenario) (all : AllParts) : Type 0 where
+  pub scenario : all.scenario ≡ s
+  pub clusters : map bare all.clusters ≡ vacant_parts s.clusters
+  pub groups : ticks_in all.groups ≡ replicate 4 0
+  pub time : all.table.present ≡ 0
+  pub names : all.table.names ≡ no_objects
+
+present_made : (s : Scenario) (all : AllParts) → AreMade s all → present_of all.clusters ≡ 0
+present_made s all made = sym (present_bare all.clusters) ∙ ap (λ (ps : List ClusterPart). present_of ps) made.clusters
+
+-- They stand for the state in which there is no task yet,
+pub plain_made : (s : Scenario) (all : AllParts) → AreMade s all → length s.clusters ≤ 4 → plain_of all ≡ vacant s
+plain_made s all made few =
+    let vacant = are_vacant s.clusters all.clusters made.clusters in
+    let clusters : clusters_of all.scenario.clusters all.clusters ≡ map free_cluster s.clusters = ap (λ (t : Scenario). clusters_of t.clusters all.clusters) made.scenario ∙ clusters_vacant s.clusters all.clusters vacant few in
+    let present = present_made s all made in
+    let threads = threads_vacant s.clusters all.clusters vacant in
+    λ i. record { scenario = made.scenario i; present = present i; clusters = clusters i; threads = threads i; table = made.names i }
+
+-- are whole,
+pub whole_made : (s : Scenario) (all : AllParts) → AreMade s all → AreWhole all
+whole_made s all made =
+    let vacant = are_vacant s.clusters all.clusters made.clusters in
+    let present = present_made s all made in
+    let ticks : ticks_of (stored all.clusters) ≡ replicate 4 0 = sym (ticks_bare all.clusters) ∙ ap (λ (ps : List ClusterPart). ticks_of (stored ps)) made.clusters in
+    record {
+      four = vacant.four;
+      numbers = λ c low. number_vacant s.clusters all.clusters c vacant low;
+      laid = subst (λ (t : Scenario). AreLaid t.clusters (layouts all.clusters)) (sym made.scenario) (laid s.clusters all.clusters (lie_vacant s.clusters all.clusters vacant));
+      time = record {
+        clusters = ticks ∙ ap (replicate 4) (sym present);
+        groups = made.groups ∙ ap (replicate 4) (sym present);
+        table = made.time ∙ sym present;
+      };
+    }
+
+-- and note that no thread stands.
+pub noted_made : (s : Scenario) (all : AllParts) → AreMade s all → AreNoted (length s.clusters) all.clusters
+noted_made s all made = noted_vacant (length s.clusters) s.clusters all.clusters (are_vacant s.clusters all.clusters made.clusters)
