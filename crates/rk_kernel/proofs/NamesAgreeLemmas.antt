@@ -16,6 +16,7 @@ use Rattle.rk_model.proofs.CountLemmas.{same_either_way, times-append, has_times
 use Rattle.rk_ids.specs.LiveObjects.{IsSplit}
 use Rattle.rk_ids.proofs.FreeIndexLemmas.{live_within, split_taken, split_given}
 use Rattle.rk_parts.specs.NamesAgree.{AreNamed}
+use Rattle.rk_kernel.specs.Does.{IsFirst}
 use Rattle.rk_model.proofs.IndexLemmas.{nth-with_same, nth-with_other, nth-with_kept}
 
 -- whether the thread of an index has begun
@@ -79,6 +80,13 @@ pub first_free : (table : Table) (threads : List Thread) (index : ℕ) (free : L
 first_free table threads index free named is =
     let w = first_within table.tasks index free (named.split Task) is in
     record { low = w.0; high = w.1; unnamed = w.2; absent = not_live (begun_at threads index) _ (named.live Task index) w.2 }
+
+-- no task of it lives
+pub first_absent : (table : Table) (threads : List Thread) (index : ℕ) → AreNamed table threads → IsFirst index table.tasks.free → has_begun (nth no_thread threads index).life ≡ false
+first_absent table threads index named is = by table.tasks.free refl is where
+  by : (free : List ℕ) → table.tasks.free ≡ free → IsFirst index free → has_begun (nth no_thread threads index).life ≡ false
+  by [] e is = absurd is
+  by (first ∷ more) e is = ap (λ i. has_begun (nth no_thread threads i).life) (sym is) ∙ (first_free table threads first more named e).absent
 
 -- a task of an index from 1 to 64 that wasn't used lives then
 pub named_made : (table : Table) (threads : List Thread) (index : ℕ) (free : List ℕ) (name : ℕ) (thread : Thread) → AreNamed table threads → length threads ≡ 64 → table.tasks.free ≡ index ∷ free → has_begun thread.life ≡ true → AreNamed (with_names Task (taken table.tasks index free name) table) (with_nth threads index thread)

@@ -1,6 +1,7 @@
 -- All parts after a gentle change, and after settling.
-use Rattle.std.proofs.Common.{◌≡◌, ℕ, ◌<◌, ◌≤◌, List, Some, length, map, replicate, sym, ap, ◌∙◌, subst, arith}
+use Rattle.std.proofs.Common.{◌≡◌, ℕ, ◌<◌, ◌≤◌, List, Option, Some, None, length, map, replicate, sym, ap, ◌∙◌, subst, arith}
 use Rattle.std.proofs.lemmas.List.{length-map}
+use Rattle.std.specs.Prelude.{IfSome, IsSome}
 use Rattle.rk_model.specs.declared.scenario.Scenario.{Scenario}
 use Rattle.rk_model.specs.State.{Plain}
 use Rattle.rk_model.specs.Scheduling.Settling.{settle}
@@ -10,6 +11,9 @@ use Rattle.rk_parts.specs.Joined.{present_of, plain_of}
 use Rattle.rk_parts.specs.Lent.{number_in, AreLaid, layouts, Stored, stored_in, stored, Frame, frame}
 use Rattle.rk_parts.specs.Noted.{settled_part, bare}
 use Rattle.rk_parts.specs.Whole.{AreWhole, ticks_of, ticks_in}
+use Rattle.rk_model.specs.Scheduling.Running.{cpu_count, caller}
+use Rattle.rk_model.specs.Text.Scenarios.{cpus_in}
+use Rattle.rk_parts.proofs.LentSeatLemmas.{cpu_count_joined}
 use Rattle.rk_parts.proofs.PutLemmas.{length_clusters}
 use Rattle.rk_parts.proofs.SettledPartLemmas.{same_stored}
 use Rattle.rk_parts.proofs.WholeLemmas.{Keeps, lent_whole, whole_settled, plain_settled, all_noted_settled}
@@ -26,6 +30,18 @@ few_clusters all ready = let size = length_clusters all.scenario.clusters all.cl
 -- as many as the scenario has
 pub count_clusters : (all : AllParts) → length (plain_of all).clusters ≡ length all.scenario.clusters
 count_clusters all = length_clusters all.scenario.clusters all.clusters
+
+-- the processors of the state are those of the scenario, of which there are at most eight
+pub count_processors : (all : AllParts) → IsReady all → cpu_count (plain_of all) ≡ cpus_in all.scenario.clusters
+count_processors all ready = cpu_count_joined all.scenario all.table.names all.groups all.clusters ready.whole.laid
+
+pub few_processors : (all : AllParts) → IsReady all → cpus_in all.scenario.clusters ≤ 8
+few_processors all ready = omega (arith, ready.sound.few_cpus, count_processors all ready)
+
+-- the lowest-numbered processor that has a directive is one of the state's
+pub least_within : (all : AllParts) (o : Option ℕ) → IsReady all → IfSome o (λ cpu. IsSome (caller (plain_of all) cpu) × (cpu < cpus_in all.scenario.clusters)) → IfSome o (λ cpu. IsSome (caller (plain_of all) cpu) × (cpu < cpu_count (plain_of all)) × (cpu < 8))
+least_within all None ready found = tt
+least_within all (Some cpu) ready found = (found.0, rw (count_processors all ready) found.1, omega (arith, found.1, few_processors all ready))
 
 -- and the part of each is found by its number
 pub part_found : (all : AllParts) (c : ℕ) → IsReady all → c < length all.scenario.clusters → number_in all.clusters c ≡ Some c

@@ -23,9 +23,8 @@ use Rattle.rk_parts.proofs.SettlingLemmas.{urgency-with_clusters}
 use Rattle.rk_kernel.specs.Sound.{stands, own, AllSound, IsClusterSound, IsSound, KeepsLines}
 use Rattle.rk_kernel.specs.Manned.{HasRunners, AllManned, AreManned, RunOnce}
 use Rattle.rk_kernel.specs.SchedulingLaws.{seats, ProcessorsHaveTheRunners, NoneRunsTwice}
-use Rattle.rk_kernel.proofs.ReadyQueueLemmas.{own_once, line_moved}
+use Rattle.rk_kernel.proofs.ReadyQueueLemmas.{own_once, line_moved, sound_at}
 use Rattle.rk_kernel.proofs.TickLemmas.{passed_steady}
-use Rattle.rk_kernel.proofs.ReadyQueueLaws.{sound_at}
 use Rattle.rk_kernel.proofs.SeatLemmas.{seats_assigned}
 use Rattle.rk_kernel.proofs.UrgencyLaws.{none_urgent, most_few, times-most_urgent}
 use Rattle.rk_kernel.proofs.SoundSettlingLemmas.{each_settled, settled_each}

@@ -14,7 +14,7 @@ use Rattle.rk_model.specs.Names.{no_objects}
 use Rattle.rk_parts.specs.declared.parts.ClusterPart.{ClusterPart}
 use Rattle.rk_parts.specs.declared.parts.AllParts.{AllParts}
 use Rattle.rk_parts.specs.Threads.{own_standing}
-use Rattle.rk_parts.specs.Joined.{listed, cluster_of, placed_in, lives_in, held, numbered, present_of, threads_of, clusters_of, plain_of}
+use Rattle.rk_parts.specs.Joined.{listed, cluster_of, placed_in, lives_in, held, numbered, present_of, threads_of, clusters_of, clusters_by, plain_of}
 use Rattle.rk_parts.specs.Lent.{AreLaid, layouts, stored}
 use Rattle.rk_parts.specs.Noted.{no_part, part_at, standings_in, key_of, IsKeyed, AreNoted, bare}
 use Rattle.rk_parts.specs.Whole.{ticks_of, ticks_in, AreWhole}
@@ -128,7 +128,7 @@ cluster_vacant counts parts c vacant few known =
     numbered_found counts parts c c found ∙ ap (λ (p : ClusterPart). cluster_of p) (vacant.each c (omega (arith, few, known)))
 
 clusters_vacant : (counts : List ℕ) (parts : List ClusterPart) → AreVacant counts parts → length counts ≤ 4 → clusters_of counts parts ≡ map free_cluster counts
-unfolding clusters_of
+unfolding clusters_by
 clusters_vacant counts parts vacant few =
     ext_get_or (free_cluster 0) (listed (numbered counts parts) 0 (length counts)) (map free_cluster counts) (length-listed (numbered counts parts) 0 (length counts) ∙ sym (length-map counts free_cluster))
     (λ i h.

@@ -7,7 +7,7 @@ pub(crate) mod objects;
 pub(crate) mod outcomes;
 pub(crate) mod tasks;
 
-ghost use Rattle.std.specs.Prelude.{◌≡◌, ◌<◌, None, length, true, false};
+ghost use Rattle.std.specs.Prelude.{◌≡◌, ◌<◌, Some, length, true, false};
 ghost use Rattle.rk_model.specs.declared.entry.Reply.{Reply as ReplyView};
 ghost use Rattle.rk_model.specs.declared.scenario.Scenario.{Scenario as ScenarioView};
 ghost use Rattle.rk_model.specs.Directives.Objects.{has_begun};
@@ -45,40 +45,51 @@ fn perform_narrow(
     scenario: &Scenario,
     clusters: &mut [ClusterPart],
     caller: ThreadIx,
-    op: Option<Op>,
+    op: Op,
 ) -> Answer
     requires narrow { is_wide op ≡ false }
     requires lives { has_begun (thread_lent clusters.old caller).life ≡ true }
     requires room { length (timers_lent clusters.old caller) < 64 }
     requires bodies { AreRunnable scenario.now.bodies }
-    ensures { Does scenario.now (λ k. directive k caller op) result clusters.old clusters.new }
+    ensures { Does scenario.now (λ k. directive k caller (Some op)) result clusters.old clusters.new }
 {
     match op {
-        Some(Op::TaskStart(id, body)) => task_start(scenario, clusters, caller, id, body),
-        Some(Op::TaskSuspend(id)) => task_suspend(clusters, caller, id),
-        Some(Op::TaskResume(id)) => task_resume(clusters, caller, id),
-        Some(Op::TaskSetPriority(id, prio, _)) => task_set_priority(clusters, caller, id, prio),
-        Some(Op::TaskWakeAfter(ticks)) => task_wake_after(clusters, caller, ticks),
-        Some(Op::Work(_) | Op::Goto(_)) | None => task_exit(clusters, caller),
-        Some(Op::TaskCreate(_, _, _) | Op::TaskIdent(_, _) | Op::TaskDelete(_)) => unreachable!(),
+        Op::TaskStart(id, body) => task_start(scenario, clusters, caller, id, body),
+        Op::TaskSuspend(id) => task_suspend(clusters, caller, id),
+        Op::TaskResume(id) => task_resume(clusters, caller, id),
+        Op::TaskSetPriority(id, prio, _) => task_set_priority(clusters, caller, id, prio),
+        Op::TaskWakeAfter(ticks) => task_wake_after(clusters, caller, ticks),
+        Op::Work(_) => task_exit(clusters, caller),
+        Op::Goto(_) => task_exit(clusters, caller),
+        Op::TaskCreate(_, _, _) | Op::TaskIdent(_, _) | Op::TaskDelete(_) => unreachable!(),
     }
 }
 
 /// Does the directive of a line.
-fn perform(all: &mut AllParts, caller: ThreadIx, op: Option<Op>) -> Answer
+fn perform(all: &mut AllParts, caller: ThreadIx, op: Op) -> Answer
+    requires acts { IsActing (plain_of all.old) caller }
+    requires whole { AreWhole all.old }
+    ensures { DoesAll (directive (plain_of all.old) caller (Some op)) result all.old all.new }
+{
+    match op {
+        Op::TaskCreate(name, prio, _) => {
+            task_create(&mut all.clusters, &mut all.table.names, caller, name, prio)
+        }
+        Op::TaskIdent(name, _) => task_ident(&all.table.names, name),
+        Op::TaskDelete(id) => task_delete(&mut all.clusters, &mut all.table.names, caller, id),
+        _ => perform_narrow(&all.scenario, &mut all.clusters, caller, op),
+    }
+}
+
+/// Does the directive of a line, or behind the last line the exit.
+fn perform_at(all: &mut AllParts, caller: ThreadIx, op: Option<Op>) -> Answer
     requires acts { IsActing (plain_of all.old) caller }
     requires whole { AreWhole all.old }
     ensures { DoesAll (directive (plain_of all.old) caller op) result all.old all.new }
 {
     match op {
-        Some(Op::TaskCreate(name, prio, _)) => {
-            task_create(&mut all.clusters, &mut all.table.names, caller, name, prio)
-        }
-        Some(Op::TaskIdent(name, _)) => task_ident(&all.table.names, name),
-        Some(Op::TaskDelete(id)) => {
-            task_delete(&mut all.clusters, &mut all.table.names, caller, id)
-        }
-        _ => perform_narrow(&all.scenario, &mut all.clusters, caller, op),
+        Some(op) => perform(all, caller, op),
+        None => task_exit(&mut all.clusters, caller),
     }
 }
 
@@ -92,6 +103,9 @@ pub(crate) fn action(all: &mut AllParts, caller: ThreadIx) -> Answer
     let thread = thread_of(&all.clusters, caller);
     match thread.finished {
         Some(reply) => back(&mut all.clusters, caller, reply),
-        None => perform(all, caller, all.scenario.op_at(thread.body, thread.line)),
+        None => {
+            let op = all.scenario.op_at(thread.body, thread.line);
+            perform_at(all, caller, op)
+        }
     }
 }

@@ -8,8 +8,9 @@ use Rattle.rk_model.specs.declared.entry.Reply.{Reply}
 use Rattle.rk_model.specs.declared.state.Thread.{Thread}
 use Rattle.rk_model.specs.State.{Plain, no_thread, thread_at, put_thread, op_at}
 use Rattle.rk_model.specs.Directives.Objects.{has_begun}
-use Rattle.rk_model.specs.Directives.Outcomes.{Outcome, answer_of, changed, concluded, after_outcome}
+use Rattle.rk_model.specs.Directives.Outcomes.{Outcome, Refused, Done, Waiting, Gone, answer_of, changed, concluded, after_outcome}
 use Rattle.rk_model.specs.Steps.{directive, back, action_on, action}
+use Rattle.rk_kernel.specs.Does.{goes_on_after}
 use Rattle.rk_kernel.specs.Calls.{IsActing, IsCaller}
 use Rattle.rk_kernel.specs.Sound.{IsGentle, is_in_call}
 use Rattle.rk_kernel.proofs.ThreadBoundsLemmas.{bounds_at, bounds_in, line_in}
@@ -31,19 +32,26 @@ line_fair k t (TaskDelete id) caller = task_delete_fair k t id caller
 line_fair k t (TaskWakeAfter n) caller = task_wake_after_fair k t n caller
 line_fair k t _ caller = task_exit_fair k t caller.acts caller.returns_not
 
--- what an action owes to the state that settles: before the thread goes on, and after
+-- what an action owes to the state that settles: one that goes on lives, and the change is gentle before the thread goes on, and after
 pub record IsDone (k : Plain) (t : ℕ) (o : Outcome) : Type 0 where
+  pub lives : goes_on_after (answer_of o) ≡ true → has_begun (thread_at (changed k o) t).life ≡ true
   pub changed : IsGentle k (changed k o)
   pub after : IsGentle k (after_outcome k t o)
+
+fair_lives : (k : Plain) (t : ℕ) (o : Outcome) → IsActing k t → IsFair k t o → goes_on_after (answer_of o) ≡ true → has_begun (thread_at (changed k o) t).life ≡ true
+fair_lives k t (Refused status) acts fair goes = ap has_begun acts.started
+fair_lives k t (Done status out next last) acts fair goes = fair.does.1.lives
+fair_lives k t (Waiting next) acts fair goes = absurd (false≢true goes)
+fair_lives k t (Gone status next) acts fair goes = absurd (false≢true goes)
 
 line_done : (k : Plain) (t : ℕ) (o : Option Op) → IsActing k t → (thread_at k t).finished ≡ None → (IsSome o → (thread_at k t).line ≤ 1000) → IsDone k t (directive k t o)
 line_done k t None acts returns_not line =
     let fair = task_exit_fair k t acts returns_not in
-    record { changed = fair.does.1; after = fair.does.1 }
+    record { changed = fair.does.1; after = fair.does.1; lives = λ goes. absurd (false≢true goes) }
 line_done k t (Some op) acts returns_not line =
     let caller : IsCaller k t = record { acts = acts; line = line refl; returns_not = returns_not } in
     let fair = line_fair k t op caller in
-    record { changed = fair_changed k t (directive k t (Some op)) caller fair; after = fair_after k t (directive k t (Some op)) caller fair }
+    record { changed = fair_changed k t (directive k t (Some op)) caller fair; after = fair_after k t (directive k t (Some op)) caller fair; lives = fair_lives k t (directive k t (Some op)) acts fair }
 
 -- a thread returns from a directive that waited
 back_done : (k : Plain) (t : ℕ) (reply : Reply) → IsActing k t → (thread_at k t).finished ≡ Some reply → IsDone k t (back k t reply)
@@ -56,7 +64,7 @@ back_done k t reply acts returns =
     let gentle = gentle_put k k t thread (gentle_same k acts.sound) refl (λ w. w) begun begun (record { home = b.home; line = b.line; working = b.working; calling = λ w. absurd (false≢true (rw free at w)); apart = λ _. free; acts = b.acts; idle = λ _. free; computed = b.computed }) in
     let here = nth-with_same no_thread thread k.threads t acts.low (omega (arith, acts.high, acts.sound.places)) in
     let stays : Stays k (put_thread k t thread) t = record { gentle = gentle; lives = rw here begun; line = rw here low; free = rw here free } in
-    record { changed = gentle; after = gentle_go_on k (put_thread k t thread) t reply.out acts.sound stays }
+    record { changed = gentle; after = gentle_go_on k (put_thread k t thread) t reply.out acts.sound stays; lives = λ goes. stays.lives }
 
 action_on_done : (k : Plain) (t : ℕ) (finished : Option Reply) → (thread_at k t).finished ≡ finished → IsActing k t → IsDone k t (action_on k t finished)
 action_on_done k t None e acts = line_done k t (op_at k.scenario (thread_at k t).body (thread_at k t).line) acts e (λ h. line_in k.scenario.bodies (thread_at k t).body (thread_at k t).line acts.sound.bodies.short h)
@@ -81,6 +89,11 @@ followed k t o answer next after told is ends = ends ∙ ap (λ (a : Answer). co
 -- after an action, and before what follows it, no thread is behind its 1,001st line
 pub line_after : (k next : Plain) (t : ℕ) → IsActing k t → next ≡ changed k (action k t) → (thread_at next t).line ≤ 1001
 line_after k next t acts is = subst (λ (n : Plain). (thread_at n t).line ≤ 1001) (sym is) (bounds_in k (changed k (action k t)) t acts.sound (action_done k t acts).changed).line
+
+-- one that goes on lives
+pub lives_after : (k next : Plain) (t : ℕ) (answer : Answer) → IsActing k t → answer ≡ answer_of (action k t) → next ≡ changed k (action k t) → goes_on_after answer ≡ true → has_begun (thread_at next t).life ≡ true
+lives_after k next t answer acts told is goes =
+    subst (λ (n : Plain). has_begun (thread_at n t).life ≡ true) (sym is) ((action_done k t acts).lives (ap goes_on_after (sym told) ∙ goes))
 
 -- and the bodies are those that may be run
 pub bodies_after : (k next : Plain) (t : ℕ) → IsActing k t → next ≡ changed k (action k t) → AreRunnable next.scenario.bodies

@@ -1,22 +1,38 @@
 -- What the making of an object of any class comes to.
-use Rattle.std.proofs.Common.{◌≡◌, ℕ, Option, None, Ok, sym, subst}
+use Rattle.std.proofs.Common.{◌≡◌, ℕ, List, Option, None, Ok, Err, refl, sym, ap, ◌∙◌}
 use Rattle.rk_model.specs.declared.entry.Answer.{Answer}
 use Rattle.rk_model.specs.declared.entry.Answer.TheVariants.{Done}
+use Rattle.rk_model.specs.declared.entry.Answer.TheVariants as told
 use Rattle.rk_model.specs.declared.ids.Class.{Class}
+use Rattle.rk_model.specs.declared.scenario.Scenario.{Scenario}
 use Rattle.rk_model.specs.declared.status.Status.{Status}
 use Rattle.rk_model.specs.declared.status.Status.TheVariants.{Successful}
 use Rattle.rk_model.specs.Ids.{id_of}
+use Rattle.rk_model.specs.Names.{Table}
 use Rattle.rk_model.specs.State.{Plain}
 use Rattle.rk_model.specs.Directives.Objects.{create}
 use Rattle.rk_model.specs.Directives.Outcomes.{Outcome, answer_of, changed}
-use Rattle.rk_kernel.specs.Does.{Creates}
-
--- What an outcome comes to: its answer, and the state that it changes.
-pub record ComesTo (o : Outcome) (answer : Answer) (before after : Plain) : Type 0 where
-  pub told : answer ≡ answer_of o
-  pub state : after ≡ changed before o
+use Rattle.rk_parts.specs.declared.parts.ClusterPart.{ClusterPart}
+use Rattle.rk_parts.specs.declared.parts.GroupPart.{GroupPart}
+use Rattle.rk_parts.specs.Joined.{joined}
+use Rattle.rk_parts.specs.Lent.{AreLaid, layouts, stored}
+use Rattle.rk_kernel.specs.Does.{Creates, DoesWide, with_table}
 
 -- an object got an index and its name, and was put there: it was created
-pub created : (class : Class) (name : ℕ) (refusal : Option Status) (put : ℕ → Plain → Plain) (index : ℕ) (before named after : Plain) (answer : Answer) → Creates before class name refusal (Ok index) named → answer ≡ Done Successful (id_of class index) None → after ≡ put index named → ComesTo (create before class name refusal put) answer before after
-created class name refusal put index before named after answer creates told state =
-    subst (λ (o : Outcome). ComesTo o answer before after) (sym (creates put)) (record { told = told; state = state })
+pub created : (s : Scenario) (class : Class) (name index : ℕ) (refusal : Option Status) (put : Plain → ℕ → Plain → Plain) (answer : Answer) (old new : List ClusterPart) (table table' : Table) → ((k : Plain) → Creates (with_table k table) class name refusal (Ok index) (with_table k table')) → answer ≡ Done Successful (id_of class index) None →
+    ((groups : List GroupPart) → AreLaid s.clusters (layouts old) → joined s table' new groups ≡ put (joined s table old groups) index (joined s table' old groups)) → (AreLaid s.clusters (layouts old) → AreLaid s.clusters (layouts new)) → stored new ≡ stored old → DoesWide s (λ k. create k class name refusal (put k)) answer old table new table'
+created s class name index refusal put answer old new table table' creates is state laid kept = record {
+  told = λ groups. (let k = joined s table old groups in is ∙ ap answer_of (sym (creates k (put k))));
+  state = λ groups lies. (let k = joined s table old groups in state groups lies ∙ ap (changed k) (sym (creates k (put k))));
+  laid = laid;
+  kept = kept;
+}
+
+-- the create was refused
+pub refused : (s : Scenario) (class : Class) (name : ℕ) (refusal : Option Status) (put : Plain → ℕ → Plain → Plain) (status : Status) (old : List ClusterPart) (table table' : Table) → ((k : Plain) → Creates (with_table k table) class name refusal (Err status) (with_table k table')) → DoesWide s (λ k. create k class name refusal (put k)) (told.Refused status) old table old table'
+refused s class name refusal put status old table table' creates = record {
+  told = λ groups. (let k = joined s table old groups in ap answer_of (sym ((creates k).0 (put k))));
+  state = λ groups lies. (let k = joined s table old groups in (creates k).1 ∙ ap (changed k) (sym ((creates k).0 (put k))));
+  laid = λ lies. lies;
+  kept = refl;
+}

@@ -7,6 +7,7 @@ use Rattle.rk_parts.proofs.LentSeatLemmas.{cpu_count_joined}
 use Rattle.rk_kernel.proofs.ThreadBoundsLemmas.{bounds_at}
 use Rattle.rk_kernel.proofs.TickLemmas.{charged_steady}
 use Rattle.rk_kernel.proofs.ChargeLemmas.{laid_charged, uncharged, charged_lives, one_charged, none_more_charged, all_charged}
+use Rattle.rk_kernel.proofs.DirectiveLemmas.LentLemmas.{puts_state}
 use Rattle.rk_kernel.proofs.clock.charge_all.Goals as goal
 use Rattle.rk_kernel.proofs.clock.charge_all.Goals.{in-Runs, in_default}
 
@@ -67,7 +68,7 @@ loop-cpu-preserved c =
           rw w.all-is
           (one_charged k p w.in-Runs.thread all (record all { clusters = w.renew.new.clusters }) old w.charged-next.result c.requires.once c.requires.ready.sound.places c.loop-cpu.invariant (sym w.in-Runs.is ∙ does) (omega arith) (omega arith)
           (w.charged-next.ensures ∙ ap (charged all.scenario) w.thread_of.ensures)
-          (w.renew.ensures.puts.state all.scenario all.table.names all.groups)
+          (puts_state all.scenario all.table.names all.groups all.clusters w.renew.new.clusters w.in-Runs.thread w.charged-next.result w.renew.ensures.puts)
           w.renew.ensures.puts.kept
           (w.renew.ensures.noted _ c.loop-cpu.invariant.noted)
           refl)

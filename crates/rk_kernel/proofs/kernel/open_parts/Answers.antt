@@ -9,7 +9,6 @@ make_opening-requires c = limits_of c.args.scenario.now c.requires
 
 pub invariant_of-result : goal.invariant_of-result
 invariant_of-result c = (
-  c.in_ok-core.ensures.sound,
-  subst AreManned (sym c.in_ok-core.ensures.opening) (manned_opening c.args.scenario.now (limits_of c.args.scenario.now c.requires)),
-  c.in_ok-core.ensures.noted,
+  c.in_ok-all.ensures.ready,
+  subst AreManned (sym c.in_ok-all.ensures.opening) (manned_opening c.args.scenario.now (limits_of c.args.scenario.now c.requires)),
 )

@@ -1,0 +1,18 @@
+use Rattle.std.proofs.Common.{ap, ◌∙◌, subst}
+use Rattle.std.specs.Prelude.{◌<◌, IfSome, IsSome}
+use Rattle.rk_model.specs.State.{Plain}
+use Rattle.rk_model.specs.Scheduling.Running.{cpu_count, caller, least}
+use Rattle.rk_kernel.proofs.PartsSettledLemmas.{few_processors, least_within}
+use Rattle.rk_kernel.proofs.kernel.least_in.Goals as goal
+
+pub least_of-requires-clause-few : goal.least_of-requires-clause-few
+least_of-requires-clause-few c = few_processors c.parts.inside.all c.parts.invariant.0
+
+pub returns-clause-least : goal.returns-clause-least
+returns-clause-least c = let all = c.parts.inside.all in c.least_of.ensures.least all.table.names all.groups ∙ ap least c.parts.view_is
+
+pub returns-clause-found : goal.returns-clause-found
+returns-clause-found c =
+    let all = c.parts.inside.all in
+    subst (λ (k : Plain). IfSome c.least_of.result (λ cpu. IsSome (caller k cpu) × (cpu < cpu_count k) × (cpu < 8))) c.parts.view_is
+    (least_within all c.least_of.result c.parts.invariant.0 (c.least_of.ensures.found all.table.names all.groups))
