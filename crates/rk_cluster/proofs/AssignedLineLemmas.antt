@@ -1,5 +1,5 @@
 -- A cluster whose processors are assigned by its line.
-use Rattle.std.proofs.Common.{◌≡◌, ℕ, List, [], ◌∷◌, Option, None, length, replicate, refl, ap, sym, ◌∙◌, map}
+use Rattle.std.proofs.Common.{◌≡◌, ℕ, List, [], Option, None, length, replicate, ap, sym, ◌∙◌, map}
 use Rattle.rk_model.specs.Scheduling.ReadyQueues.{kept, assigned}
 use Rattle.rk_model.proofs.AssignmentLemmas.{length-assigned, assigned_again, filled_none, none_urgent, kept_free}
 use Rattle.rk_line.specs.declared.line.Place.{Place}

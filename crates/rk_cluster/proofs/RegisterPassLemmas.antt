@@ -9,6 +9,7 @@ use Rattle.std.specs.List.{slice_set}
 use Rattle.rk_model.specs.Lists.{has}
 use Rattle.rk_line.specs.declared.line.Place.{Place}
 use Rattle.rk_line.specs.Places.{threads, without, with_prio}
+use Rattle.rk_model.proofs.BooleanLemmas.{same_number}
 use Rattle.rk_model.proofs.CountLemmas.{has-append}
 use Rattle.rk_line.proofs.LineLemmas.{threads-append}
 use Rattle.rk_cluster.specs.declared.moves.Change.{Change}
@@ -101,9 +102,6 @@ fronts_above changes t a zero h = refl
 fronts_above changes t a (suc n) h =
     let more = fronts_above changes t (a + 1) n (omega arith) in
     has_threads-append (front_place a (changes a)) (fronts_from changes (a + 1) n) t ∙ (rw (front_above t a (changes a) h, more) refl)
-
-same_number : (u t : ℕ) → (u == t) ≡ true → u ≡ t
-same_number u t h = grind (arith, nat_tests, h)
 
 -- where a thread isn't in a line, its change alone does nothing to it
 alone_absent : (t : ℕ) (change : Option Change) (line : List Place) → has (threads line) t ≡ false → kept_places (alone t change) line ≡ line

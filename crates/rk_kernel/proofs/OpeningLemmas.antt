@@ -1,6 +1,5 @@
 -- The opening state is sound: it is the state with no task yet, changed gently and settled. How its tasks are started one after another.
-use Rattle.std.proofs.Common.{◌≡◌, ℕ, zero, suc, ◌+◌, ◌<◌, ◌≤◌, List, [], ◌∷◌, false, ◌==◌, Option, None, Some, length, get_or, length-append, length-take, ◌++◌, take, map, replicate, arith, refl, ap, sym, ◌∙◌}
-use Rattle.std.specs.Bool.{if◌then◌else◌}
+use Rattle.std.proofs.Common.{◌≡◌, ℕ, zero, suc, ◌+◌, ◌<◌, ◌≤◌, List, [], ◌∷◌, false, ◌==◌, Option, None, length, get_or, length-append, length-take, ◌++◌, take, map, replicate, arith, refl, ap, sym, ◌∙◌}
 use Rattle.std.specs.List.{AllByRecursion, range_with_len, slice_set}
 use Rattle.std.proofs.lemmas.List.{length-replicate, length-map, map-append, take_more, take_all}
 use Rattle.std.proofs.lemmas.List.Elements.{All-from_recursion}
@@ -22,7 +21,6 @@ use Rattle.rk_model.specs.Limits.{IsWithinLimits}
 use Rattle.rk_parts.specs.declared.parts.ClusterPart.{ClusterPart}
 use Rattle.rk_parts.specs.declared.parts.GroupPart.{GroupPart}
 use Rattle.rk_parts.specs.Joined.{joined, thread_lent}
-use Rattle.rk_parts.specs.Lent.{number_in, one_more, Stored, stored}
 use Rattle.rk_kernel.proofs.InitNamesLemmas.{named_vacant, named_begun}
 use Rattle.rk_kernel.proofs.ThreadBoundsLemmas.{none_bounds, arrived_bounds}
 use Rattle.rk_kernel.specs.Sound.{stands, own, AllSound, IsInBounds, IsSound, AllTimed, IsGentle}
@@ -179,18 +177,6 @@ home_known s init at thread within less is made =
     let home : thread.home ≡ init.cluster = ap (λ (x : Thread). x.home) made in
     let same : init.cluster ≡ (get_or s.inits at init).cluster = ap (λ (x : Init). x.cluster) is in
     omega (arith, known, home, same)
-
--- whose part is found as long as the parts store the same,
-abbrev numbers_in : List Stored → ℕ → Option ℕ
-numbers_in [] c = None
-numbers_in (x ∷ xs) c = if x.lined.number == c then Some 0 else one_more (numbers_in xs c)
-
-numbers_stored : (parts : List ClusterPart) (c : ℕ) → numbers_in (stored parts) c ≡ number_in parts c
-numbers_stored [] c = refl
-numbers_stored (p ∷ ps) c = ap (λ r. if p.lined.number == c then Some 0 else one_more r) (numbers_stored ps c)
-
-pub number_kept : (old new : List ClusterPart) (c : ℕ) → stored new ≡ stored old → number_in new c ≡ number_in old c
-number_kept old new c e = sym (numbers_stored new c) ∙ ap (λ (ss : List Stored). numbers_in ss c) e ∙ numbers_stored old c
 
 -- and then it is started.
 pub started_next : (s : Scenario) (table : Table) (groups : List GroupPart) (old parts next : List ClusterPart) (index : ℕ) (thread : Thread) (init : Init) (at : ℕ) → at < length s.inits → length s.inits ≤ 64 → init ≡ get_or s.inits at init → thread ≡ begun s init → index ≡ at + 1 →

@@ -1,7 +1,5 @@
 -- Settling after a gentle change keeps a state sound.
 use Rattle.std.proofs.Common.{◌≡◌, ℕ, ◌+◌, List, [], ◌∷◌, length, length-append, arith, refl, ap, sym, subst, ◌∙◌}
-use Rattle.std.proofs.lemmas.List.{length-map}
-use Rattle.rk_model.specs.declared.settling.Standing.{Standing}
 use Rattle.rk_model.specs.declared.settling.Shift.{Shift}
 use Rattle.rk_model.specs.Lists.{times}
 use Rattle.rk_model.specs.State.{Plain, ClusterState}

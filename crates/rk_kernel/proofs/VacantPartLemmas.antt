@@ -23,7 +23,8 @@ use Rattle.rk_parts.proofs.HeldLemmas.{held_nowhere, lives_nowhere, no_part_live
 use Rattle.rk_parts.proofs.LayoutLemmas.{Lie, laid}
 use Rattle.rk_parts.proofs.LentTimerLemmas.{numbered_found}
 use Rattle.rk_parts.proofs.MarkLemmas.{nth_replicate}
-use Rattle.rk_parts.proofs.WholeLemmas.{lent_all}
+use Rattle.rk_parts.proofs.SettledPartLemmas.{bare_at, present_bare}
+use Rattle.rk_parts.proofs.WholeLemmas.{lent_all, ticks_bare}
 use Rattle.rk_kernel.specs.Made.{vacant_part, vacant_in, vacant_parts}
 
 -- ---- the processors in front of a cluster
@@ -53,11 +54,6 @@ second_first counts count is_count = omega (arith, is_count, cpus_more counts 0)
 pub record AreVacant (counts : List ℕ) (parts : List ClusterPart) : Type 0 where
   pub four : length parts ≡ 4
   pub each : (c : ℕ) → c < 4 → bare (part_at parts c) ≡ vacant_in counts c
-
-bare_at : (parts : List ClusterPart) (i : ℕ) → get_or (map bare parts) i no_part ≡ bare (part_at parts i)
-bare_at [] i = refl
-bare_at (p ∷ ps) zero = refl
-bare_at (p ∷ ps) (suc i) = bare_at ps i
 
 in_vacant : (counts : List ℕ) (c : ℕ) → c < 4 → get_or (vacant_parts counts) c no_part ≡ vacant_in counts c
 in_vacant counts zero low = refl
@@ -149,14 +145,6 @@ noted_vacant count counts parts vacant = record {
 }
 
 -- ---- the parts that were made
-
-present_bare : (parts : List ClusterPart) → present_of (map bare parts) ≡ present_of parts
-present_bare [] = refl
-present_bare (p ∷ ps) = refl
-
-ticks_bare : (parts : List ClusterPart) → ticks_of (stored (map bare parts)) ≡ ticks_of (stored parts)
-ticks_bare [] = refl
-ticks_bare (p ∷ ps) = ap (λ ts. p.present ∷ ts) (ticks_bare ps)
 
 -- All parts as they are made, where no task was started yet.
 pub record AreMade (s : Scenario) (all : AllParts) : Type 0 where

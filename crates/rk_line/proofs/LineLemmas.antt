@@ -1,11 +1,12 @@
 -- The threads of lines, the priorities that they have there, and lines that were changed.
-use Rattle.std.proofs.Common.{◌≡◌, ℕ, suc, ◌+◌, ◌<◌, ◌≤◌, List, [], ◌∷◌, ◌++◌, Bool, true, false, cond, not, ◌||◌, ◌==◌, ltb, length, arith, refl, sym, ap, ◌∙◌, subst}
-use Rattle.std.specs.List.{filter, remove, slice_set, position_or_len}
+use Rattle.std.proofs.Common.{◌≡◌, ℕ, suc, ◌+◌, ◌<◌, ◌≤◌, List, [], ◌∷◌, ◌++◌, Bool, true, false, cond, not, ◌||◌, ◌==◌, length, arith, refl, sym, ap, ◌∙◌, subst}
+use Rattle.std.specs.List.{remove, slice_set}
 use Rattle.std.proofs.lemmas.List.{map-append, length-map}
 use Rattle.std.proofs.lemmas.Bool.{false≢true}
 use Rattle.std.proofs.lemmas.Bool.Decides.{nat_tests}
 use Rattle.rk_model.specs.Lists.{has, times}
-use Rattle.rk_model.proofs.CountLemmas.{times-append, times-filter, times-has, has_times, times_none, has_none, length_within}
+use Rattle.rk_model.proofs.BooleanLemmas.{equal_test}
+use Rattle.rk_model.proofs.CountLemmas.{times-append, times-has, has_times, times_none, length_within}
 use Rattle.rk_model.proofs.KeyLemmas.{position_at, position_within, times-without, alone_by, removed}
 use Rattle.rk_line.specs.declared.line.Place.{Place}
 use Rattle.rk_line.specs.Places.{threads, prio_in, without, with_prio, IsLine}
@@ -69,14 +70,11 @@ prio_there (other ∷ front) place back h = grind (arith, nat_tests, h, prio_the
 pub times_split : (t : ℕ) (front : List Place) (place : Place) (back : List Place) → times t (threads (front ++ place ∷ back)) ≡ times t (threads front) + (cond (place.thread == t) 1 0 + times t (threads back))
 times_split t front place back = ap (times t) (threads-append front (place ∷ back)) ∙ times-append t (threads front) (threads (place ∷ back))
 
-same_itself : (n : ℕ) → (n == n) ≡ true
-same_itself n = grind (arith, nat_tests)
-
 -- In a line a thread's priority is that of its place.
 pub prio_place : (front : List Place) (place : Place) (back : List Place) → IsLine (front ++ place ∷ back) → prio_in (front ++ place ∷ back) place.thread ≡ place.prio
 prio_place front place back is =
     let split : times place.thread (threads (front ++ place ∷ back)) ≡ times place.thread (threads front) + (1 + times place.thread (threads back)) =
-    rw (same_itself place.thread) at (times_split place.thread front place back) in
+    rw (equal_test place.thread place.thread refl) at (times_split place.thread front place back) in
     prio_there front place back (omega (arith, split, is.once place.thread))
 
 -- another thread keeps its priority where one leaves

@@ -1,5 +1,5 @@
 -- The most urgent threads of a line are the same by two functions that give its threads the same.
-use Rattle.std.proofs.Common.{◌≡◌, ℕ, zero, suc, ◌+◌, List, [], ◌∷◌, ◌++◌, Bool, true, ◌==◌, ◌||◌, refl, ap, sym, ◌∙◌, append_assoc}
+use Rattle.std.proofs.Common.{◌≡◌, ℕ, zero, suc, ◌+◌, List, [], ◌∷◌, ◌++◌, true, ◌==◌, refl, ap, sym, ◌∙◌, append_assoc}
 use Rattle.rk_model.specs.Lists.{has}
 use Rattle.rk_model.specs.Scheduling.ReadyQueues.{rank, ranked_from, most_urgent}
 use Rattle.rk_model.proofs.BooleanLemmas.{equal_test, or_front, or_back}

@@ -8,7 +8,7 @@ use Rattle.std.proofs.lemmas.Bool.Decides.{nat_tests}
 use Rattle.rk_model.specs.Lists.{has}
 use Rattle.rk_model.specs.Scheduling.ReadyQueues.{rank, ranked_from, nth_urgent, most_urgent, has_cpu, kept, filled, assigned}
 use Rattle.rk_model.proofs.CountLemmas.{has-append}
-use Rattle.rk_model.proofs.BooleanLemmas.{same_number, either, or_front, or_back}
+use Rattle.rk_model.proofs.BooleanLemmas.{equal_test, same_number, either, or_front, or_back}
 
 length-filled : (cpus : List (Option ℕ)) (ts : List ℕ) → length (filled cpus ts) ≡ length cpus
 length-filled [] ts = refl
@@ -18,9 +18,6 @@ length-filled (None ∷ cpus) (t ∷ ts) = omega (arith, length-filled cpus ts)
 
 pub length-assigned : (old : List (Option ℕ)) (running : List ℕ) → length (assigned old running) ≡ length old
 length-assigned old running = length-filled (map (kept running) old) _ ∙ length-map old (kept running)
-
-same_test : (u : ℕ) → (u == u) ≡ true
-same_test u = grind (arith, nat_tests)
 
 found_or : (u t : ℕ) (back : List ℕ) (rest : Option ℕ) (b : Bool) → cond b (Some u) rest ≡ Some t → (rest ≡ Some t → has back t ≡ true) → ((u == t) || has back t) ≡ true
 found_or u t back rest true h more = let e : u ≡ t = cc in grind (arith, nat_tests, e)
@@ -86,7 +83,7 @@ assigned_has key old m line t h =
 filter_none : (p : ℕ → Bool) (xs : List ℕ) → ((t : ℕ) → has xs t ≡ true → p t ≡ false) → filter p xs ≡ []
 filter_none p [] none = refl
 filter_none p (x ∷ xs) none =
-    let here = none x (or_front (has xs x) (same_test x)) in
+    let here = none x (or_front (has xs x) (equal_test x x refl)) in
     rw here (filter_none p xs (λ t h. none t (or_back (x == t) h)))
 
 has_filter : (p : ℕ → Bool) (xs : List ℕ) (t : ℕ) → has xs t ≡ true → p t ≡ true → has (filter p xs) t ≡ true
@@ -106,7 +103,7 @@ kept_all : (running : List ℕ) (cpus : List (Option ℕ)) → ((t : ℕ) → ha
 kept_all running [] runs = refl
 kept_all running (None ∷ cpus) runs = ap (λ (xs : List (Option ℕ)). None ∷ xs) (kept_all running cpus runs)
 kept_all running (Some u ∷ cpus) runs =
-    let here = runs u (or_front (has_cpu cpus u) (same_test u)) in
+    let here = runs u (or_front (has_cpu cpus u) (equal_test u u refl)) in
     rw here (ap (λ (xs : List (Option ℕ)). Some u ∷ xs) (kept_all running cpus (λ t h. runs t (or_back (u == t) h))))
 
 -- where nobody is to fill a processor, all stay as they are

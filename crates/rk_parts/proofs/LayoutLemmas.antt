@@ -1,9 +1,7 @@
 -- How parts lie: what a layout says of its part, and what changes keep of it.
-use Rattle.std.proofs.Common.{◌≡◌, ◌≢◌, ℕ, zero, suc, ◌+◌, ◌<◌, ◌≤◌, List, [], ◌∷◌, Bool, true, false, cond, ◌==◌, Option, Some, None, length, map, take, arith, refl, sym, ap, ◌∙◌, get_or, set, ⊎_elim}
-use Rattle.std.specs.Bool.{if◌then◌else◌}
-use Rattle.std.proofs.lemmas.Bool.{false≢true, cases_lt}
-use Rattle.std.proofs.lemmas.Bool.Decides.{nat_tests}
-use Rattle.std.proofs.lemmas.List.{get_or-map, get_or_past, length-map, length-set, get_or-set_same, get_or-set_other}
+use Rattle.std.proofs.Common.{◌≡◌, ℕ, zero, suc, ◌<◌, List, [], ◌∷◌, Bool, true, false, length, map, take, refl, sym, ap, ◌∙◌, get_or, set, ⊎_elim}
+use Rattle.std.proofs.lemmas.Bool.{cases_lt}
+use Rattle.std.proofs.lemmas.List.{get_or-map, get_or_past, length-map}
 use Rattle.rk_model.specs.declared.limits.TheConstants.{MOST_OBJECTS}
 use Rattle.rk_model.specs.declared.state.Thread.{Thread}
 use Rattle.rk_model.specs.Lists.{nth, with_nth}
@@ -11,10 +9,9 @@ use Rattle.rk_model.specs.State.{no_thread}
 use Rattle.rk_model.specs.Directives.Objects.{has_begun}
 use Rattle.rk_model.specs.Text.Scenarios.{cpus_in}
 use Rattle.rk_parts.specs.declared.parts.ClusterPart.{ClusterPart}
-use Rattle.rk_parts.specs.Joined.{placed_in, lives_in, held}
-use Rattle.rk_parts.specs.Lent.{found_in, number_in, one_more, outline, Layout, layout, layouts, layout_at, lives_at, AreLaid, Stored, stored_in, stored}
+use Rattle.rk_parts.specs.Joined.{placed_in, lives_in}
+use Rattle.rk_parts.specs.Lent.{outline, Layout, layout, layouts, layout_at, lives_at, AreLaid, Stored, stored_in, stored}
 use Rattle.rk_parts.specs.Noted.{no_part, part_at}
-use Rattle.rk_parts.proofs.HeldLemmas.{found_here, found_later, found_nowhere, found_lives, found_within, held_found, lives_nowhere, lives_found, dead_nowhere, held_nowhere, IsFound}
 
 -- ---- outlines
 

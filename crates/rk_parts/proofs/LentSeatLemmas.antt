@@ -12,7 +12,7 @@ use Rattle.rk_model.specs.Text.Scenarios.{cpus_in}
 use Rattle.rk_model.proofs.BooleanLemmas.{same_number}
 use Rattle.rk_parts.specs.declared.parts.ClusterPart.{ClusterPart}
 use Rattle.rk_parts.specs.declared.parts.GroupPart.{GroupPart}
-use Rattle.rk_parts.specs.Joined.{listed, cluster_of, numbered, clusters_of, clusters_by, joined}
+use Rattle.rk_parts.specs.Joined.{listed, cluster_of, numbered, clusters_by, joined}
 use Rattle.rk_parts.specs.Lent.{layouts, AreLaid}
 use Rattle.rk_parts.specs.Noted.{part_at}
 use Rattle.rk_parts.specs.Seats.{is_seat, seat_in}
@@ -142,8 +142,8 @@ seat_of counts part p of sits = by (part.lined.number == of.cluster) refl where
       ⊎_elim
       (λ less. seat_behind first count p (omega (arith, begins, sits.count, of.is, stand_before counts part.lined.number of.cluster less)))
       (λ more. (
-          let less : of.cluster < part.lined.number = grind (arith, nat_tests, e, more) in
-          seat_before first count p (omega (arith, begins, of.is, of.less, stand_before counts of.cluster part.lined.number less))))
+      let less : of.cluster < part.lined.number = grind (arith, nat_tests, e, more) in
+      seat_before first count p (omega (arith, begins, of.is, of.less, stand_before counts of.cluster part.lined.number less))))
       (cases_lt part.lined.number of.cluster)
 
   by : (b : Bool) → (part.lined.number == of.cluster) ≡ b → is_seat first count p ≡ b

@@ -1,5 +1,5 @@
 -- To change the timers of a lent part is to change them in the state that the parts stand for.
-use Rattle.std.proofs.Common.{◌≡◌, ◌≢◌, ℕ, zero, suc, ◌+◌, ◌<◌, ◌≤◌, List, [], ◌∷◌, Bool, true, false, cond, ◌==◌, Option, Some, None, length, arith, refl, sym, ap, ◌∙◌, get_or, set}
+use Rattle.std.proofs.Common.{◌≡◌, ℕ, zero, suc, ◌+◌, ◌<◌, ◌≤◌, List, [], ◌∷◌, Bool, true, false, cond, ◌==◌, Option, Some, None, length, arith, refl, sym, ap, ◌∙◌, get_or, set}
 use Rattle.std.specs.Bool.{if◌then◌else◌}
 use Rattle.std.proofs.lemmas.Bool.{false≢true}
 use Rattle.std.proofs.lemmas.Bool.Decides.{nat_tests}
@@ -8,13 +8,13 @@ use Rattle.rk_model.specs.declared.state.Armed.{Armed}
 use Rattle.rk_model.specs.declared.state.Thread.{Thread}
 use Rattle.rk_model.specs.Lists.{nth}
 use Rattle.rk_model.specs.Names.{Table}
-use Rattle.rk_model.specs.State.{Plain, ClusterState, no_thread, no_cluster, cluster_at, put_cluster}
+use Rattle.rk_model.specs.State.{ClusterState, no_thread, no_cluster, cluster_at, put_cluster}
 use Rattle.rk_model.specs.Directives.Objects.{has_begun}
 use Rattle.rk_model.specs.Scheduling.Timers.{without_due}
 use Rattle.rk_parts.specs.declared.parts.ClusterPart.{ClusterPart}
 use Rattle.rk_parts.specs.declared.parts.GroupPart.{GroupPart}
-use Rattle.rk_parts.specs.Joined.{listed, cluster_of, lives_in, placed_in, held, numbered, present_of, threads_of, clusters_of, clusters_by, joined, thread_lent, timers_lent}
-use Rattle.rk_parts.specs.Lent.{found_in, number_in, one_more, AreLaid, frame, layouts, stored, PutsTimers, TakesDue, with_timers}
+use Rattle.rk_parts.specs.Joined.{cluster_of, lives_in, held, numbered, present_of, threads_of, clusters_of, clusters_by, joined, thread_lent, timers_lent}
+use Rattle.rk_parts.specs.Lent.{found_in, number_in, AreLaid, frame, layouts, PutsTimers, TakesDue, with_timers}
 use Rattle.rk_parts.specs.Threads.{Threads}
 use Rattle.rk_parts.specs.Noted.{part_at}
 use Rattle.rk_parts.proofs.ListedLemmas.{get_or-listed, same_listed, set-listed}

@@ -1,8 +1,7 @@
 -- Lists of so many things, numbered from a number on.
-use Rattle.std.proofs.Common.{◌≡◌, ℕ, zero, suc, ◌+◌, ◌<◌, ◌≤◌, List, [], ◌∷◌, Bool, true, false, cond, ◌==◌, length, arith, refl, sym, ap, ◌∙◌, get_or, set, ⊎_elim, add-one}
+use Rattle.std.proofs.Common.{◌≡◌, ℕ, zero, suc, ◌+◌, ◌<◌, List, [], ◌∷◌, Bool, true, false, cond, ◌==◌, length, arith, refl, sym, ap, ◌∙◌, get_or, set}
 use Rattle.std.proofs.lemmas.Bool.Decides.{nat_tests}
-use Rattle.std.proofs.lemmas.Bool.{cases_lt}
-use Rattle.std.proofs.lemmas.List.{get_or-set_same, get_or-set_other, get_or_past, ext_get_or, length-set}
+use Rattle.std.proofs.lemmas.List.{get_or-set_same, get_or-set_other, ext_get_or, length-set}
 use Rattle.rk_parts.specs.Joined.{listed}
 
 pub length-listed : {X : Type 0} (f : ℕ → X) (a n : ℕ) → length (listed f a n) ≡ n
@@ -34,8 +33,8 @@ same_within f g a (suc n) e =
 pub set-listed : {X : Type 0} (f g : ℕ → X) (a n i : ℕ) (x : X) → ((u : ℕ) → g u ≡ cond (u == a + i) x (f u)) → listed g a n ≡ set (listed f a n) i x
 set-listed f g a n i x e = ext_get_or x (listed g a n) (set (listed f a n) i x) (length-listed g a n ∙ sym (length-set (listed f a n) i x ∙ length-listed f a n))
     (λ k h. (
-        let less : k < n = omega (arith, h, length-listed g a n) in
-        get_or-listed g a n k x less ∙ e (a + k) ∙ by k less (k == i) refl))
+    let less : k < n = omega (arith, h, length-listed g a n) in
+    get_or-listed g a n k x less ∙ e (a + k) ∙ by k less (k == i) refl))
   where
     by : (k : ℕ) → k < n → (b : Bool) → (k == i) ≡ b → cond (a + k == a + i) x (f (a + k)) ≡ get_or (set (listed f a n) i x) k x
     by k less true t =

@@ -1,5 +1,5 @@
 -- To put a thread in its place of the lent parts is to put it in the state that they stand for.
-use Rattle.std.proofs.Common.{◌≡◌, ◌≢◌, ℕ, zero, suc, ◌+◌, ◌<◌, ◌≤◌, List, [], ◌∷◌, Bool, true, false, cond, ◌==◌, Option, Some, None, length, map, subst, arith, refl, sym, ap, ◌∙◌, get_or, set, ⊎_elim}
+use Rattle.std.proofs.Common.{◌≡◌, ℕ, zero, suc, ◌+◌, ◌<◌, ◌≤◌, List, [], ◌∷◌, Bool, true, false, cond, ◌==◌, Option, Some, None, length, map, subst, arith, refl, sym, ap, ◌∙◌, get_or, set, ⊎_elim}
 use Rattle.std.specs.Prelude.{IsSome}
 use Rattle.std.specs.Bool.{if◌then◌else◌}
 use Rattle.std.proofs.lemmas.Bool.{false≢true, cases_lt}
@@ -12,17 +12,17 @@ use Rattle.rk_line.specs.declared.line.Place.{Place}
 use Rattle.rk_model.specs.declared.state.Thread.{Thread}
 use Rattle.rk_model.specs.Lists.{nth, with_nth}
 use Rattle.rk_model.specs.Names.{Table}
-use Rattle.rk_model.specs.State.{Plain, ClusterState, no_thread, put_thread}
+use Rattle.rk_model.specs.State.{no_thread, put_thread}
 use Rattle.rk_model.specs.Directives.Objects.{has_begun}
 use Rattle.rk_model.proofs.IndexLemmas.{nth-with_other, nth-with_same}
 use Rattle.rk_parts.specs.declared.parts.ClusterPart.{ClusterPart}
 use Rattle.rk_parts.specs.declared.parts.GroupPart.{GroupPart}
-use Rattle.rk_parts.specs.Joined.{listed, cluster_of, placed_in, lives_in, held, numbered, present_of, threads_of, clusters_of, clusters_by, joined, thread_lent}
-use Rattle.rk_parts.specs.Lent.{found_in, number_in, one_more, Puts, frame, Frame, layouts, stored, layout, stored_in}
+use Rattle.rk_parts.specs.Joined.{cluster_of, placed_in, lives_in, held, numbered, present_of, threads_of, clusters_of, clusters_by, joined, thread_lent}
+use Rattle.rk_parts.specs.Lent.{found_in, Puts, layouts, stored}
 use Rattle.rk_parts.specs.Threads.{Threads, own_standing}
 use Rattle.rk_parts.specs.Noted.{part_at, no_part, standings_in, key_of, IsKeyed, AreNoted}
 use Rattle.rk_parts.proofs.ListedLemmas.{get_or-listed, length-listed, same_listed, set-listed}
-use Rattle.rk_parts.proofs.HeldLemmas.{held_found, held_else, held_put, held_made, held_nowhere, found_lives, found_within, lives_found, IsFound}
+use Rattle.rk_parts.proofs.HeldLemmas.{held_found, held_else, held_put, held_nowhere, found_lives, found_within}
 use Rattle.rk_parts.proofs.LayoutLemmas.{layout_put, layouts_same, stored_same, outline_same}
 
 -- the thread of an index in the state that parts stand for

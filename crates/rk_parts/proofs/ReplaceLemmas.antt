@@ -1,21 +1,18 @@
 -- To make a thread in the part of its home, and to remove one.
-use Rattle.std.proofs.Common.{◌≡◌, ◌≢◌, ℕ, zero, suc, ◌+◌, ◌<◌, ◌≤◌, List, [], ◌∷◌, Bool, true, false, cond, ◌==◌, Option, Some, None, length, take, arith, refl, sym, ap, ◌∙◌, get_or, set, length-set, subst}
-use Rattle.std.specs.Bool.{if◌then◌else◌}
+use Rattle.std.proofs.Common.{◌≡◌, ℕ, zero, suc, ◌<◌, ◌≤◌, List, [], ◌∷◌, Bool, true, false, cond, ◌==◌, Some, length, take, arith, refl, sym, ap, ◌∙◌, get_or, set, length-set, subst}
 use Rattle.std.proofs.lemmas.Bool.{false≢true}
 use Rattle.std.proofs.lemmas.Bool.Decides.{nat_tests}
-use Rattle.std.proofs.lemmas.List.{get_or-set_same, get_or-set_other}
 use Rattle.rk_model.specs.declared.state.Thread.{Thread}
-use Rattle.rk_model.specs.Lists.{nth, with_nth}
 use Rattle.rk_model.specs.State.{no_thread}
 use Rattle.rk_model.specs.Directives.Objects.{has_begun}
 use Rattle.rk_model.specs.Text.Scenarios.{cpus_in}
 use Rattle.rk_model.proofs.IndexLemmas.{length-with_nth}
 use Rattle.rk_cluster.specs.Clusters.{Cluster}
 use Rattle.rk_parts.specs.declared.parts.ClusterPart.{ClusterPart}
-use Rattle.rk_parts.specs.Joined.{placed_in, lives_in, held, thread_lent}
-use Rattle.rk_parts.specs.Lent.{found_in, number_in, one_more, layouts, AreLaid, Replaces}
-use Rattle.rk_parts.specs.Noted.{part_at, no_part}
-use Rattle.rk_parts.proofs.HeldLemmas.{found_here, found_later, held_found, held_made, held_nowhere, found_lives, found_within, nowhere_lives, lives_nowhere, dead_nowhere}
+use Rattle.rk_parts.specs.Joined.{placed_in, lives_in, thread_lent}
+use Rattle.rk_parts.specs.Lent.{found_in, number_in, Replaces}
+use Rattle.rk_parts.specs.Noted.{part_at}
+use Rattle.rk_parts.proofs.HeldLemmas.{found_here, found_later, held_made, held_nowhere, found_lives, found_within, nowhere_lives, lives_nowhere, dead_nowhere}
 use Rattle.rk_parts.proofs.LayoutLemmas.{Lie, lie, laid, stored_same}
 use Rattle.rk_parts.proofs.PutLemmas.{with_thread, placed_other, placed_same, thread_held, state_put, lives_size, part_set, part_kept}
 

@@ -1,5 +1,5 @@
 -- To settle each of the parts is to settle the state that they stand for.
-use Rattle.std.proofs.Common.{◌≡◌, ◌≢◌, ℕ, zero, suc, ◌+◌, ◌<◌, ◌≤◌, List, [], ◌∷◌, ◌++◌, Bool, true, false, cond, not, ◌==◌, ◌&&◌, Option, Some, None, length, map, take, drop, arith, refl, sym, ap, ◌∙◌, get_or, set, subst, ⊎_elim, append_assoc}
+use Rattle.std.proofs.Common.{◌≡◌, ℕ, zero, suc, ◌+◌, ◌<◌, ◌≤◌, List, [], ◌∷◌, ◌++◌, Bool, true, false, cond, not, ◌==◌, Option, Some, None, length, map, take, drop, arith, refl, sym, ap, ◌∙◌, get_or, set, subst, ⊎_elim, append_assoc}
 use Rattle.std.specs.Bool.{if◌then◌else◌}
 use Rattle.std.proofs.lemmas.Bool.{false≢true, cases_lt}
 use Rattle.std.proofs.lemmas.Bool.Decides.{nat_tests}
@@ -7,26 +7,25 @@ use Rattle.std.proofs.lemmas.List.{get_or-map, get_or_past, length-map, drop_mor
 use Rattle.rk_model.specs.declared.scenario.Scenario.{Scenario}
 use Rattle.rk_model.specs.declared.settling.Standing.{Standing}
 use Rattle.rk_model.specs.declared.settling.Shift.{Shift}
-use Rattle.rk_model.specs.declared.settling.Shift.TheVariants.{Stay, Leave, ToEnd, ToFront}
+use Rattle.rk_model.specs.declared.settling.Shift.TheVariants.{Leave, ToEnd}
 use Rattle.rk_model.specs.declared.state.Thread.{Thread}
 use Rattle.rk_model.specs.Lists.{has, nth}
 use Rattle.rk_model.specs.Names.{Table}
 use Rattle.rk_model.specs.State.{Plain, ClusterState, no_thread, thread_at, no_cluster, cluster_at}
-use Rattle.rk_model.specs.Directives.Objects.{has_begun}
-use Rattle.rk_model.specs.Scheduling.Priorities.{standing, standings, nth_standing, urgency, prio, or_least_urgent}
-use Rattle.rk_model.specs.Scheduling.Settling.{belongs, shift_of, shifts, settle, settle_by}
+use Rattle.rk_model.specs.Scheduling.Priorities.{standings, nth_standing, urgency, prio, or_least_urgent}
+use Rattle.rk_model.specs.Scheduling.Settling.{belongs, shift_of, shifts, settle}
 use Rattle.rk_model.proofs.AssignmentLemmas.{length-assigned}
-use Rattle.rk_cluster.specs.Clusters.{Cluster, settled}
+use Rattle.rk_cluster.specs.Clusters.{settled}
 use Rattle.rk_line.specs.Places.{threads}
 use Rattle.rk_parts.specs.declared.parts.ClusterPart.{ClusterPart}
 use Rattle.rk_parts.specs.declared.parts.GroupPart.{GroupPart}
-use Rattle.rk_parts.specs.Threads.{is_ready, own_standing, Threads}
+use Rattle.rk_parts.specs.Threads.{is_ready, own_standing}
 use Rattle.rk_parts.specs.Joined.{listed, cluster_of, placed_in, lives_in, held, numbered, present_of, threads_of, clusters_of, clusters_by, joined, thread_lent}
 use Rattle.rk_parts.specs.Lent.{found_in, number_in, one_more, AreLaid, Layout, layout, layouts, Stored, stored_in, stored}
 use Rattle.rk_parts.specs.ClusterRegisters.{register}
 use Rattle.rk_parts.specs.Noted.{key_of, IsKeyed, no_part, part_at, standings_in, AreNoted, LinesHold, settled_part, bare}
 use Rattle.rk_parts.specs.Settled.{settled_cluster, settled_from}
-use Rattle.rk_parts.proofs.ListedLemmas.{length-listed, get_or-listed, same_listed, same_within}
+use Rattle.rk_parts.proofs.ListedLemmas.{length-listed, same_listed, same_within}
 use Rattle.rk_parts.proofs.HeldLemmas.{held_found, held_nowhere, found_lives, found_within, nowhere_lives, lives_nowhere}
 use Rattle.rk_parts.proofs.LayoutLemmas.{Lie, lie}
 use Rattle.rk_parts.proofs.PutLemmas.{thread_held, lives_size, length_threads, length_clusters}
@@ -200,7 +199,7 @@ pub same_stored : (old new : List ClusterPart) (i : ℕ) → stored new ≡ stor
 same_stored old new i e = sym (stored_at new i) ∙ ap (λ (ss : List Stored). get_or ss i (stored_in no_part)) e ∙ stored_at old i
 
 -- what stands in the settled parts
-bare_at : (parts : List ClusterPart) (i : ℕ) → get_or (map bare parts) i no_part ≡ bare (part_at parts i)
+pub bare_at : (parts : List ClusterPart) (i : ℕ) → get_or (map bare parts) i no_part ≡ bare (part_at parts i)
 bare_at [] i = refl
 bare_at (p ∷ ps) zero = refl
 bare_at (p ∷ ps) (suc i) = bare_at ps i
@@ -242,7 +241,7 @@ unfolding threads_of
 threads_settled last mid new done =
     same_listed (held new) (held mid) 1 64 (λ t. sym (held_bare new t) ∙ ap (λ (ps : List ClusterPart). held ps t) done ∙ held_part_settled last mid t)
 
-present_bare : (parts : List ClusterPart) → present_of (map bare parts) ≡ present_of parts
+pub present_bare : (parts : List ClusterPart) → present_of (map bare parts) ≡ present_of parts
 present_bare [] = refl
 present_bare (p ∷ ps) = refl
 
@@ -267,18 +266,22 @@ stood_seen s k before mid new last at t is =
 standing_held : (counts : List ℕ) (k : Plain) (parts : List ClusterPart) (t : ℕ) → Lie counts parts → k.threads ≡ threads_of parts → nth_standing (standings k) t ≡ own_standing (held parts t)
 standing_held counts k parts t is e = standings_say k t ∙ standing_own k t ∙ ap (λ (ts : List Thread). own_standing (nth no_thread ts t)) e ∙ ap own_standing (thread_any counts parts t is)
 
+-- the numbers of parts that store this
+numbers_in : List Stored → ℕ → Option ℕ
+numbers_in [] c = None
+numbers_in (x ∷ xs) c = if x.lined.number == c then Some 0 else one_more (numbers_in xs c)
+
+numbers_stored : (parts : List ClusterPart) (c : ℕ) → numbers_in (stored parts) c ≡ number_in parts c
+unfolding numbers_in
+numbers_stored [] c = refl
+numbers_stored (p ∷ ps) c = ap (λ r. if p.lined.number == c then Some 0 else one_more r) (numbers_stored ps c)
+
+-- a part is found by its number as long as the parts store the same
+pub number_kept : (old new : List ClusterPart) (c : ℕ) → stored new ≡ stored old → number_in new c ≡ number_in old c
+number_kept old new c e = sym (numbers_stored new c) ∙ ap (λ (ss : List Stored). numbers_in ss c) e ∙ numbers_stored old c
+
 number_before : (s : Scenario) (k : Plain) (before mid new : List ClusterPart) (last : List ℕ) (c : ℕ) → Settles s k before mid new last → c < length s.clusters → number_in before c ≡ Some c
-number_before s k before mid new last c is known = number_stored before mid c is.kept ∙ is.lent c known where
-  numbers : List Stored → ℕ → Option ℕ
-  numbers [] c = None
-  numbers (x ∷ xs) c = if x.lined.number == c then Some 0 else one_more (numbers xs c)
-
-  number_of : (parts : List ClusterPart) (c : ℕ) → numbers (stored parts) c ≡ number_in parts c
-  number_of [] c = refl
-  number_of (p ∷ ps) c = ap (λ r. if p.lined.number == c then Some 0 else one_more r) (number_of ps c)
-
-  number_stored : (old new : List ClusterPart) (c : ℕ) → stored new ≡ stored old → number_in old c ≡ number_in new c
-  number_stored old new c e = sym (number_of old c) ∙ ap (λ (ss : List Stored). numbers ss c) (sym e) ∙ number_of new c
+number_before s k before mid new last c is known = sym (number_kept before mid c is.kept) ∙ is.lent c known
 
 -- the ready queue of a part has exactly the threads that stood there
 line_held : (s : Scenario) (k : Plain) (before mid new : List ClusterPart) (last : List ℕ) (c : ℕ) → Settles s k before mid new last → c < length s.clusters → (t : ℕ) → has (threads (part_at mid c).lined.line) t ≡ belongs c (nth_standing (part_at mid c).threads.stood t)
@@ -306,7 +309,7 @@ shifts_seen s k now before mid new last c is same known =
     let lies = lie s.clusters before is.laid in
     let lies_after = lie s.clusters mid is.laid_after in
     λ i t. each t (stood_seen s k before mid new last c t is) (standing_of (part_at mid c).threads.places t) (standing_held s.clusters k before t lies is.threads) (standing_held s.clusters now mid t lies_after same)
-        (seen s.clusters before c c t lies found) (seen s.clusters mid c c t lies_after (is.lent c known)) i
+    (seen s.clusters before c c t lies found) (seen s.clusters mid c c t lies_after (is.lent c known)) i
   where
     each : (t : ℕ) → nth_standing (part_at mid c).threads.stood t ≡ own_standing (placed_in (part_at before c) t) → nth_standing (standings_in (part_at mid c)) t ≡ own_standing (placed_in (part_at mid c) t) →
         nth_standing (standings k) t ≡ own_standing (held before t) → nth_standing (standings now) t ≡ own_standing (held mid t) → Seen c (placed_in (part_at before c) t) (held before t) → Seen c (placed_in (part_at mid c) t) (held mid t) →

@@ -1,7 +1,7 @@
 -- Parts with another tick.
-use Rattle.std.proofs.Common.{◌≡◌, ℕ, zero, suc, ◌+◌, ◌<◌, List, [], ◌∷◌, ◌++◌, ◌==◌, Option, Some, length, map, take, drop, replicate, arith, refl, sym, ap, ◌∙◌, get_or, set, subst, append_assoc}
+use Rattle.std.proofs.Common.{◌≡◌, ℕ, zero, suc, ◌+◌, ◌<◌, List, [], ◌∷◌, ◌++◌, ◌==◌, length, map, take, drop, replicate, arith, refl, sym, ap, ◌∙◌, get_or, set, subst, append_assoc}
 use Rattle.std.specs.Bool.{if◌then◌else◌}
-use Rattle.std.proofs.lemmas.List.{get_or-map, length-map, drop_more, take_more_set, drop-set-lt, map_push}
+use Rattle.std.proofs.lemmas.List.{length-map, drop_more, take_more_set, drop-set-lt}
 use Rattle.rk_model.specs.declared.scenario.Scenario.{Scenario}
 use Rattle.rk_parts.specs.declared.parts.ClusterPart.{ClusterPart}
 use Rattle.rk_parts.specs.declared.parts.GroupPart.{GroupPart}
@@ -9,8 +9,8 @@ use Rattle.rk_parts.specs.declared.parts.AllParts.{AllParts}
 use Rattle.rk_model.specs.State.{Plain}
 use Rattle.rk_parts.specs.Joined.{cluster_of, placed_in, lives_in, held, numbered, present_of, threads_of, clusters_of, clusters_by, plain_of}
 use Rattle.rk_parts.specs.Lent.{AreLaid, Layout, layout, layouts, stored}
-use Rattle.rk_parts.specs.Noted.{no_part, part_at, standings_in, key_of, IsKeyed, AreNoted}
-use Rattle.rk_parts.specs.Whole.{AreWhole, AreOnTime, ticks_of, ticks_in, at_tick, group_at_tick}
+use Rattle.rk_parts.specs.Noted.{part_at, standings_in, key_of, IsKeyed, AreNoted}
+use Rattle.rk_parts.specs.Whole.{AreWhole, ticks_of, ticks_in, at_tick, group_at_tick}
 use Rattle.rk_parts.proofs.ListedLemmas.{same_listed}
 use Rattle.rk_parts.proofs.PutLemmas.{Ranked, keys_in}
 

@@ -1,8 +1,7 @@
 -- All parts of a running kernel, after a change and after settling.
-use Rattle.std.proofs.Common.{◌≡◌, ℕ, zero, suc, ◌+◌, ◌<◌, ◌≤◌, List, [], ◌∷◌, ◌==◌, Option, Some, None, length, map, replicate, arith, refl, sym, ap, ◌∙◌, get_or, subst}
+use Rattle.std.proofs.Common.{◌≡◌, ℕ, ◌<◌, ◌≤◌, List, [], ◌∷◌, Some, length, map, replicate, arith, refl, sym, ap, ◌∙◌, subst}
 use Rattle.std.proofs.lemmas.List.{length-map}
 use Rattle.rk_model.specs.declared.scenario.Scenario.{Scenario}
-use Rattle.rk_model.specs.State.{Plain}
 use Rattle.rk_model.specs.Scheduling.Settling.{settle}
 use Rattle.rk_parts.specs.declared.parts.ClusterPart.{ClusterPart}
 use Rattle.rk_parts.specs.declared.parts.GroupPart.{GroupPart}
@@ -10,8 +9,8 @@ use Rattle.rk_parts.specs.declared.parts.AllParts.{AllParts}
 use Rattle.rk_parts.specs.Joined.{joined, present_of, plain_of}
 use Rattle.rk_parts.specs.Lent.{number_in, AreLaid, layouts, Stored, stored_in, stored}
 use Rattle.rk_parts.specs.Noted.{part_at, AreNoted, LinesHold, settled_part, bare}
-use Rattle.rk_parts.specs.Whole.{ticks_of, ticks_in, AreOnTime, AreWhole}
-use Rattle.rk_parts.proofs.LayoutLemmas.{Lie, lie}
+use Rattle.rk_parts.specs.Whole.{ticks_of, ticks_in, AreWhole}
+use Rattle.rk_parts.proofs.LayoutLemmas.{lie}
 use Rattle.rk_parts.proofs.LentTimerLemmas.{number_found}
 use Rattle.rk_parts.proofs.SettledPartLemmas.{Settles, same_stored, part_settled, length_settled, layouts_settled, settled_joined, noted_settled}
 
@@ -24,7 +23,7 @@ lent_whole all c whole few known = lent_all all.scenario.clusters all.clusters c
 
 -- ---- ticks
 
-ticks_bare : (parts : List ClusterPart) → ticks_of (stored (map bare parts)) ≡ ticks_of (stored parts)
+pub ticks_bare : (parts : List ClusterPart) → ticks_of (stored (map bare parts)) ≡ ticks_of (stored parts)
 ticks_bare [] = refl
 ticks_bare (p ∷ ps) = ap (λ ts. p.present ∷ ts) (ticks_bare ps)
 

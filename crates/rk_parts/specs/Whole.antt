@@ -5,7 +5,7 @@ use Rattle.rk_parts.specs.declared.parts.GroupPart.{GroupPart}
 use Rattle.rk_parts.specs.declared.parts.AllParts.{AllParts}
 use Rattle.rk_parts.specs.Joined.{present_of}
 use Rattle.rk_parts.specs.Lent.{Stored, AreLaid, layouts, stored}
-use Rattle.rk_parts.specs.Noted.{part_at, AreNoted}
+use Rattle.rk_parts.specs.Noted.{part_at}
 
 -- the ticks of parts that store this
 abbrev pub ticks_of : List Stored → List ℕ

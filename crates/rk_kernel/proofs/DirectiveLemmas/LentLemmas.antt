@@ -1,5 +1,5 @@
 -- What directives do to the parts that are lent, step by step.
-use Rattle.std.proofs.Common.{◌≡◌, ◌≢◌, ℕ, ◌+◌, ◌<◌, ◌≤◌, List, [], ◌∷◌, ◌++◌, Bool, true, false, cond, ◌==◌, Option, Some, None, length, arith, refl, sym, ap, ◌∙◌, subst}
+use Rattle.std.proofs.Common.{◌≡◌, ◌≢◌, ℕ, ◌+◌, ◌<◌, List, [], ◌∷◌, ◌++◌, Bool, true, false, cond, ◌==◌, Option, Some, None, length, arith, refl, sym, ap, ◌∙◌, subst}
 use Rattle.std.specs.Prelude.{IsSome}
 use Rattle.std.proofs.lemmas.Bool.{false≢true}
 use Rattle.std.proofs.lemmas.Bool.Decides.{nat_tests}
@@ -14,7 +14,7 @@ use Rattle.rk_model.specs.declared.state.Thread.{Thread}
 use Rattle.rk_model.specs.declared.state.Wait.{Wait}
 use Rattle.rk_model.specs.Lists.{nth}
 use Rattle.rk_model.specs.Names.{Table}
-use Rattle.rk_model.specs.State.{Plain, ClusterState, no_thread, thread_at, put_thread}
+use Rattle.rk_model.specs.State.{Plain, no_thread, thread_at, put_thread}
 use Rattle.rk_model.specs.Scheduling.Timers.{arm, cancel, without_timer}
 use Rattle.rk_model.specs.Directives.Objects.{has_begun, without_object}
 use Rattle.rk_model.specs.declared.entry.Answer.{Answer}
@@ -25,7 +25,7 @@ use Rattle.rk_parts.specs.declared.parts.ClusterPart.{ClusterPart}
 use Rattle.rk_parts.specs.declared.parts.GroupPart.{GroupPart}
 use Rattle.rk_parts.specs.declared.parts.AllParts.{AllParts}
 use Rattle.rk_parts.specs.Joined.{joined, lent, present_of, threads_of, thread_lent, timers_lent, plain_of}
-use Rattle.rk_parts.specs.Lent.{number_in, AreLaid, layouts, Frame, frame, stored, Puts, Replaces, PutsTimers, with_timers}
+use Rattle.rk_parts.specs.Lent.{number_in, AreLaid, layouts, Frame, frame, Puts, Replaces, PutsTimers, with_timers}
 use Rattle.rk_parts.specs.Noted.{part_at}
 use Rattle.rk_parts.specs.Whole.{AreWhole}
 use Rattle.rk_parts.proofs.PutLemmas.{length_clusters}

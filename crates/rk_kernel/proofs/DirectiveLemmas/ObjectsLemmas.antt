@@ -11,7 +11,7 @@ use Rattle.rk_model.specs.Ids.{id_of}
 use Rattle.rk_model.specs.Names.{Table}
 use Rattle.rk_model.specs.State.{Plain}
 use Rattle.rk_model.specs.Directives.Objects.{create}
-use Rattle.rk_model.specs.Directives.Outcomes.{Outcome, answer_of, changed}
+use Rattle.rk_model.specs.Directives.Outcomes.{answer_of, changed}
 use Rattle.rk_parts.specs.declared.parts.ClusterPart.{ClusterPart}
 use Rattle.rk_parts.specs.declared.parts.GroupPart.{GroupPart}
 use Rattle.rk_parts.specs.Joined.{joined}

@@ -1,9 +1,8 @@
 -- The directives of the task manager.
-use Rattle.std.specs.Prelude.{ℕ, List, Bool, true, false, ◌||◌, nat_lt, Option, Some, None, ◌==◌, if◌then◌else◌}
+use Rattle.std.specs.Prelude.{ℕ, Bool, true, false, ◌||◌, nat_lt, Option, Some, None, ◌==◌, if◌then◌else◌}
 use Rattle.rk_model.specs.declared.limits.TheConstants.{LEAST_URGENT}
 use Rattle.rk_model.specs.declared.status.Status.{Status}
 use Rattle.rk_model.specs.declared.status.Status.TheVariants.{Successful, TaskExitted, IncorrectState, AlreadySuspended, InvalidPriority}
-use Rattle.rk_model.specs.declared.ids.Class.{Class}
 use Rattle.rk_model.specs.declared.ids.Class.TheVariants.{Task}
 use Rattle.rk_model.specs.declared.scenario.Target.{Target}
 use Rattle.rk_model.specs.declared.scenario.Target.TheVariants.{Var, Own, Given}
@@ -12,7 +11,6 @@ use Rattle.rk_model.specs.declared.state.Thread.{Thread}
 use Rattle.rk_model.specs.declared.state.Life.TheVariants.{Absent, Dormant, Started, Ended}
 use Rattle.rk_model.specs.declared.state.Wait.TheVariants.{ForTime}
 use Rattle.rk_model.specs.declared.state.Armer.TheVariants.{Thread as OfThread}
-use Rattle.rk_model.specs.Lists.{nth}
 use Rattle.rk_model.specs.State.{Plain, no_thread, thread_at, put_thread}
 use Rattle.rk_model.specs.Scheduling.Timers.{cancel}
 use Rattle.rk_model.specs.Directives.Objects.{object_of, create, ident, without_object}

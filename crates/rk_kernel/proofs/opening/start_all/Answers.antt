@@ -1,5 +1,6 @@
 use Rattle.std.proofs.Common.{IsSome, arith, sym, ◌∙◌, subst}
-use Rattle.rk_kernel.proofs.OpeningLemmas.{not_begun, home_known, number_kept, started_next, started_all}
+use Rattle.rk_parts.proofs.SettledPartLemmas.{number_kept}
+use Rattle.rk_kernel.proofs.OpeningLemmas.{not_begun, home_known, started_next, started_all}
 use Rattle.rk_kernel.proofs.opening.start_all.Goals as goal
 
 pub make-requires-clause-absent : goal.make-requires-clause-absent

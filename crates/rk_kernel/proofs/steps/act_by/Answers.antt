@@ -12,7 +12,7 @@ use Rattle.rk_kernel.specs.Does.{Untouched}
 use Rattle.rk_kernel.proofs.CallerLemmas.{acting_of}
 use Rattle.rk_kernel.proofs.DirectiveLemmas.LentLemmas.{laid_kept}
 use Rattle.rk_kernel.proofs.DirectiveLemmas.ActionLemmas.{action_done, line_after, bodies_after, lives_after, followed}
-use Rattle.rk_kernel.proofs.PartsSettledLemmas.{IsChanged, AreSettled, settled}
+use Rattle.rk_kernel.proofs.PartsSettledLemmas.{IsChanged, settled}
 use Rattle.rk_kernel.proofs.steps.act_by.Goals as goal
 
 pub action-answer-requires-clause-acts : goal.action-answer-requires-clause-acts

@@ -1,14 +1,7 @@
-use Rattle.std.proofs.Common.{◌≡◌, List, Some, sym, ap, ◌∙◌, subst, arith}
-use Rattle.std.proofs.lemmas.Bool.{false≢true}
-use Rattle.rk_model.specs.declared.state.Thread.{Thread}
-use Rattle.rk_model.specs.State.{no_thread}
-use Rattle.rk_model.specs.Directives.Objects.{has_begun}
-use Rattle.rk_parts.specs.declared.parts.ClusterPart.{ClusterPart}
-use Rattle.rk_parts.specs.Lent.{found_in, number_in, Puts, Replaces}
-use Rattle.rk_parts.specs.Noted.{AreNoted}
-use Rattle.rk_parts.proofs.HeldLemmas.{found_within, held_nowhere}
-use Rattle.rk_parts.proofs.PutLemmas.{as_put, thread_held, put_puts, noted_put, some_none}
-use Rattle.rk_parts.proofs.ReplaceLemmas.{made, removed, number_within}
+use Rattle.std.proofs.Common.{◌≡◌, Some, sym, ◌∙◌, subst, arith}
+use Rattle.rk_parts.specs.Lent.{number_in, Replaces}
+use Rattle.rk_parts.proofs.PutLemmas.{as_put, some_none}
+use Rattle.rk_parts.proofs.ReplaceLemmas.{made, number_within}
 use Rattle.rk_parts.proofs.lent.make.Goals as goal
 
 pub returns-in-Some : goal.returns-in-Some

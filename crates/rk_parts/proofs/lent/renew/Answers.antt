@@ -1,15 +1,9 @@
-use Rattle.std.proofs.Common.{◌≡◌, List, Some, sym, ap, ◌∙◌, subst, arith}
-use Rattle.std.proofs.lemmas.Bool.{false≢true}
-use Rattle.rk_model.specs.declared.state.Thread.{Thread}
-use Rattle.rk_model.specs.State.{no_thread}
-use Rattle.rk_model.specs.Directives.Objects.{has_begun}
-use Rattle.rk_parts.specs.declared.parts.ClusterPart.{ClusterPart}
-use Rattle.rk_parts.specs.Lent.{found_in, number_in, Puts, Replaces}
+use Rattle.std.proofs.Common.{◌≡◌, Some, sym, ap, ◌∙◌, subst, arith}
+use Rattle.rk_parts.specs.Lent.{found_in, Puts}
 use Rattle.rk_parts.specs.Threads.{own_standing}
 use Rattle.rk_parts.specs.Noted.{AreNoted}
-use Rattle.rk_parts.proofs.HeldLemmas.{found_within, held_nowhere}
-use Rattle.rk_parts.proofs.PutLemmas.{as_put, thread_held, put_puts, noted_put, thread_found, never_found}
-use Rattle.rk_parts.proofs.ReplaceLemmas.{made, removed, number_within}
+use Rattle.rk_parts.proofs.HeldLemmas.{found_within}
+use Rattle.rk_parts.proofs.PutLemmas.{as_put, put_puts, noted_put, thread_found, never_found}
 use Rattle.rk_parts.proofs.lent.renew.Goals as goal
 
 pub renew-requires : goal.renew-requires

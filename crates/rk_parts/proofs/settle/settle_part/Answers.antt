@@ -1,4 +1,4 @@
-use Rattle.std.proofs.Common.{ℕ, List, [], ap, ◌∙◌}
+use Rattle.std.proofs.Common.{ℕ, [], ap, ◌∙◌}
 use Rattle.std.specs.Option.{option_to_list}
 use Rattle.rk_cluster.specs.Clusters.{Cluster, settled}
 use Rattle.rk_parts.specs.declared.parts.ClusterPart.{ClusterPart}

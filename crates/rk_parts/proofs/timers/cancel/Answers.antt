@@ -1,15 +1,9 @@
-use Rattle.std.proofs.Common.{◌≡◌, ◌++◌, ◌∷◌, [], List, Some, length, sym, ap, ◌∙◌, subst, arith}
-use Rattle.rk_model.specs.declared.state.Armed.{Armed}
-use Rattle.rk_model.specs.Scheduling.Timers.{due_at, without_timer, without_due}
-use Rattle.rk_parts.specs.Joined.{present_of, timers_lent}
-use Rattle.rk_parts.specs.Lent.{found_in, number_in, PutsTimers, TakesDue}
-use Rattle.rk_parts.specs.Firing.{head_of}
-use Rattle.rk_parts.specs.Noted.{part_at}
-use Rattle.rk_parts.specs.declared.parts.ClusterPart.{ClusterPart}
+use Rattle.std.proofs.Common.{◌≡◌, Some, sym, ◌∙◌, subst, arith}
+use Rattle.rk_model.specs.Scheduling.Timers.{without_timer}
+use Rattle.rk_parts.specs.Lent.{found_in, PutsTimers}
 use Rattle.rk_parts.proofs.HeldLemmas.{found_within}
-use Rattle.rk_parts.proofs.PutLemmas.{part_is, some_none, never_found}
-use Rattle.rk_parts.proofs.ReplaceLemmas.{number_within}
-use Rattle.rk_parts.proofs.LentTimerLemmas.{as_retimed, puts_timers, takes_due, timers_found, numbered_found}
+use Rattle.rk_parts.proofs.PutLemmas.{never_found}
+use Rattle.rk_parts.proofs.LentTimerLemmas.{as_retimed, puts_timers}
 use Rattle.rk_parts.proofs.timers.cancel.Goals as goal
 
 pub returns-in-Some : goal.returns-in-Some

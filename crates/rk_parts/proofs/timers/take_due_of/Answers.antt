@@ -1,17 +1,14 @@
-use Rattle.std.proofs.Common.{◌≡◌, ◌++◌, ◌∷◌, [], List, Some, length, sym, ap, ◌∙◌, subst, arith}
-use Rattle.rk_model.specs.declared.state.Armed.{Armed}
-use Rattle.rk_model.specs.Scheduling.Timers.{due_at, without_timer, without_due}
+use Rattle.std.proofs.Common.{◌≡◌, [], Some, sym, ap, ◌∙◌, subst}
+use Rattle.rk_model.specs.Scheduling.Timers.{due_at, without_due}
 use Rattle.std.specs.List.{slice_index_or}
 use Rattle.rk_model.specs.State.{ClusterState}
-use Rattle.rk_parts.specs.Joined.{present_of, timers_lent}
-use Rattle.rk_parts.specs.Lent.{found_in, number_in, PutsTimers, TakesDue}
+use Rattle.rk_parts.specs.Joined.{present_of}
+use Rattle.rk_parts.specs.Lent.{number_in, TakesDue}
 use Rattle.rk_parts.specs.Firing.{head_of}
-use Rattle.rk_parts.specs.Noted.{part_at}
 use Rattle.rk_parts.specs.declared.parts.ClusterPart.{ClusterPart}
-use Rattle.rk_parts.proofs.HeldLemmas.{found_within}
-use Rattle.rk_parts.proofs.PutLemmas.{part_is, some_none, never_found}
+use Rattle.rk_parts.proofs.PutLemmas.{part_is, some_none}
 use Rattle.rk_parts.proofs.ReplaceLemmas.{number_within}
-use Rattle.rk_parts.proofs.LentTimerLemmas.{as_retimed, puts_timers, takes_due, timers_found, numbered_found}
+use Rattle.rk_parts.proofs.LentTimerLemmas.{as_retimed, takes_due, numbered_found}
 use Rattle.rk_parts.proofs.timers.take_due_of.Goals as goal
 
 pub returns-in-Some-clause-first : goal.returns-in-Some-clause-first

@@ -1,5 +1,3 @@
-use Rattle.std.proofs.Common.{sym, ap, subst}
-use Rattle.rk_parts.specs.Lent.{Puts}
 use Rattle.rk_kernel.proofs.DirectiveLemmas.LentLemmas.{ended}
 use Rattle.rk_kernel.proofs.directives.outcomes.end_wait.Goals as goal
 

@@ -1,4 +1,4 @@
-use Rattle.std.proofs.Common.{◌≡◌, ap, sym, ◌∙◌}
+use Rattle.std.proofs.Common.{ap, ◌∙◌}
 use Rattle.rk_model.specs.declared.ids.Class.TheVariants.{Task}
 use Rattle.rk_model.specs.Names.{lives}
 use Rattle.rk_model.specs.Directives.Objects.{without_object}

@@ -1,4 +1,4 @@
-use Rattle.std.proofs.Common.{◌≤◌, ap, sym, ◌∙◌, arith}
+use Rattle.std.proofs.Common.{ap, sym, ◌∙◌}
 use Rattle.rk_model.specs.Scheduling.Running.{cpu_count}
 use Rattle.rk_kernel.proofs.PartsSettledLemmas.{count_processors, few_processors}
 use Rattle.rk_kernel.proofs.kernel.Parts.cpus.Goals as goal
