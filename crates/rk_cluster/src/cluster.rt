@@ -1,7 +1,7 @@
 ghost use Rattle.std.specs.Prelude.{◌≡◌, ◌+◌, ◌-◌, ◌<◌, ◌≤◌, [], None, IfOk, length};
 ghost use Rattle.std.specs.List.{slice_index_or};
 ghost use Rattle.rk_model.specs.Scheduling.ReadyQueues.{has_cpu};
-ghost use Rattle.rk_cluster.specs.Registers.{change_at};
+ghost use Rattle.rk_cluster.specs.Registers.{change_at, no_changes};
 ghost use Rattle.rk_cluster.specs.Clusters.{empty_cluster, settled};
 
 use crate::assign::{Few, assign, is_on_cpu};
@@ -116,6 +116,7 @@ impl Cluster {
     pub fn number(&self) -> u8
         ensures value { result ≡ self.now.number }
         ensures few { result < 4 }
+        ensures still { settled no_changes self.now ≡ self.now }
     {
         self.number
     }

@@ -9,8 +9,6 @@ use Rattle.rk_model.specs.declared.state.Armer.{Armer}
 use Rattle.rk_model.specs.declared.state.Armer.TheVariants.{Thread as OfThread}
 use Rattle.rk_model.specs.Lists.{times}
 use Rattle.rk_model.specs.State.{Plain, no_thread, thread_at, cluster_at}
-use Rattle.rk_model.specs.Directives.Outcomes.{begin_wait}
-use Rattle.rk_model.specs.declared.state.Wait.{Wait}
 use Rattle.rk_model.specs.Scheduling.Timers.{is_same, times_armed}
 use Rattle.rk_model.proofs.CountLemmas.{length_by_times, length_range, once_in_range}
 use Rattle.rk_model.proofs.BooleanLemmas.{and_false}
@@ -58,9 +56,3 @@ room_for_timer k t acts =
     let few = length_by_times (t ∷ sleepers timers) (range_with_len 1 (length k.threads))
     (λ u. let m = one_more k h t u acts (t == u) refl (waits_in k.threads h u) refl in omega (arith, m, count u timers, timers_of k h acts.sound (bounds_at k t acts.sound).home u)) in
     omega (arith, few, length_range 1 (length k.threads), length-sleepers timers, acts.sound.places)
-
--- also once it has begun to wait
-pub room_waiting : (k next : Plain) (t h : ℕ) (wait : Wait) → IsActing k t → next ≡ begin_wait k t wait → h ≡ (thread_at k t).home → length (cluster_at next h).timers < 64
-room_waiting k next t h wait acts is home =
-    let same : (cluster_at next h).timers ≡ (cluster_at k (thread_at k t).home).timers = ap (λ (n : Plain). (cluster_at n h).timers) is ∙ ap (λ c. (cluster_at k c).timers) home in
-    omega (arith, ap (λ (ts : List Armed). length ts) same, room_for_timer k t acts)

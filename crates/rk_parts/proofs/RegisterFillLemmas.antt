@@ -1,20 +1,34 @@
 -- A register of a cluster as it is written, one thread that may have a change after another.
-use Rattle.std.proofs.Common.{◌≡◌, ℕ, ◌+◌, ◌<◌, List, [], ◌∷◌, ◌++◌, Bool, true, false, cond, not, ◌==◌, ◌||◌, nat_lt, ◌⊎◌, inl, inr, ⊎_elim, Option, Some, None, length, map, drop, get_or, arith, refl, ap, sym, ◌∙◌, subst}
+use Rattle.std.proofs.Common.{◌≡◌, ℕ, ◌+◌, ◌<◌, List, [], ◌∷◌, ◌++◌, Bool, true, false, cond, not, ◌==◌, ◌&&◌, ◌||◌, nat_lt, ◌⊎◌, inl, inr, ⊎_elim, Option, Some, None, length, map, drop, get_or, arith, refl, ap, sym, ◌∙◌, subst}
+use Rattle.std.specs.Option.{option_to_list}
 use Rattle.std.proofs.lemmas.Bool.{false≢true}
 use Rattle.std.proofs.lemmas.Bool.Decides.{nat_tests}
 use Rattle.std.proofs.lemmas.List.{drop_more}
 use Rattle.rk_model.specs.declared.settling.Standing.{Standing}
 use Rattle.rk_model.specs.declared.settling.Shift.TheVariants.{Stay, Leave, ToEnd, ToFront}
 use Rattle.rk_model.specs.declared.state.Thread.{Thread}
-use Rattle.rk_model.specs.Lists.{has}
-use Rattle.rk_model.specs.Scheduling.Priorities.{nth_standing}
+use Rattle.rk_model.specs.declared.state.Life.{Life}
+use Rattle.rk_model.specs.declared.state.Life.TheVariants.{Absent, Dormant, Started, Ended}
+use Rattle.rk_model.specs.Lists.{has, nth}
+use Rattle.rk_model.specs.State.{no_thread}
+use Rattle.rk_model.specs.Directives.Objects.{has_begun}
+use Rattle.rk_model.specs.Scheduling.Priorities.{is_started, is_no_wait, nth_standing}
 use Rattle.rk_model.specs.Scheduling.Settling.{belongs, shifts, shift_of}
 use Rattle.rk_model.proofs.CountLemmas.{has-append}
 use Rattle.rk_cluster.specs.declared.moves.Change.{Change}
-use Rattle.rk_cluster.specs.Registers.{with_change}
+use Rattle.rk_cluster.specs.Registers.{no_changes, with_change}
 use Rattle.rk_parts.specs.ClusterRegisters.{change_by, register}
-use Rattle.rk_parts.specs.Threads.{own_standing, StandAsNoted}
+use Rattle.rk_parts.specs.Noted.{one_lives}
+use Rattle.rk_parts.specs.Threads.{is_ready, own_standing, StandAsNoted}
 use Rattle.rk_parts.proofs.StandingLemmas.{standing_of}
+
+not_ready : (x : Thread) → has_begun x.life ≡ false → is_ready x ≡ false
+not_ready x dead = by x.life dead where
+  by : (life : Life) → has_begun life ≡ false → (is_started life && not x.suspended && is_no_wait x.wait) ≡ false
+  by Absent h = refl
+  by Dormant h = refl
+  by Started h = absurd (false≢true (sym h))
+  by Ended h = refl
 
 -- a thread that stands as before and doesn't go last has no change
 still_none : (c : ℕ) (s : Standing) → change_by (belongs c s) (shift_of c s s false) s.prio ≡ None
@@ -92,3 +106,22 @@ left_from threads last i u within is = ap (λ (us : List ℕ). us ++ last) (drop
 -- when none of the list is left, those behind it are
 pub fill_behind : (whole : ℕ → Option Change) (left last rest : List ℕ) (out : ℕ → Option Change) → left ≡ [] → last ≡ rest → IsFilling whole (left ++ last) out → IsFilling whole rest out
 fill_behind whole left last rest out none same is = subst (λ us. IsFilling whole us out) (ap (λ (us : List ℕ). us ++ last) none ∙ same) is
+
+-- ---- where nobody is marked
+
+-- a thread that lives in another part has no change
+away_none : (stood : List Standing) (places : List Thread) (last : List ℕ) (c t : ℕ) → nth_standing stood t ≡ own_standing (nth no_thread places t) → has_begun (nth no_thread places t).life ≡ false → register stood (map own_standing places) last c t ≡ None
+unfolding shifts shift_of
+away_none stood places last c t same dead =
+    let now : nth_standing (map own_standing places) t ≡ own_standing (nth no_thread places t) = standing_of places t in
+    rw (same, now, not_ready (nth no_thread places t) dead) refl
+
+-- where nobody is marked, and the one that goes last lives elsewhere, nothing changes
+pub nobody_changes : (marked : List ℕ) (stood : List Standing) (places : List Thread) (last : Option ℕ) (c : ℕ) → marked ≡ [] → StandAsNoted marked stood places → one_lives places last ≡ false → register stood (map own_standing places) (option_to_list last) c ≡ no_changes
+nobody_changes marked stood places None c none noted elsewhere = λ i t. unmarked_none marked [] stood places c t noted (rw none refl) i
+nobody_changes marked stood places (Some u) c none noted elsewhere = λ i t. by t (u == t) refl i where
+  by : (t : ℕ) (b : Bool) → (u == t) ≡ b → register stood (map own_standing places) (u ∷ []) c t ≡ None
+  by t true e =
+      let same : u ≡ t = grind (arith, nat_tests, e) in
+      away_none stood places (u ∷ []) c t (sym (noted t (rw none refl))) (ap (λ v. has_begun (nth no_thread places v).life) (sym same) ∙ elsewhere)
+  by t false e = unmarked_none marked (u ∷ []) stood places c t noted (rw (none, e) refl)

@@ -1,5 +1,6 @@
 -- To settle each of the parts is to settle the state that they stand for.
 use Rattle.std.proofs.Common.{◌≡◌, ℕ, zero, suc, ◌+◌, ◌<◌, ◌≤◌, List, [], ◌∷◌, ◌++◌, Bool, true, false, cond, not, ◌==◌, Option, Some, None, length, map, take, drop, arith, refl, sym, ap, ◌∙◌, get_or, set, subst, ⊎_elim, append_assoc}
+use Rattle.std.specs.Option.{option_to_list}
 use Rattle.std.specs.Bool.{if◌then◌else◌}
 use Rattle.std.proofs.lemmas.Bool.{false≢true, cases_lt}
 use Rattle.std.proofs.lemmas.Bool.Decides.{nat_tests}
@@ -15,15 +16,16 @@ use Rattle.rk_model.specs.State.{Plain, ClusterState, no_thread, thread_at, no_c
 use Rattle.rk_model.specs.Scheduling.Priorities.{standings, nth_standing, urgency, prio, or_least_urgent}
 use Rattle.rk_model.specs.Scheduling.Settling.{belongs, shift_of, shifts, settle}
 use Rattle.rk_model.proofs.AssignmentLemmas.{length-assigned}
+use Rattle.rk_cluster.specs.Registers.{no_changes}
 use Rattle.rk_cluster.specs.Clusters.{settled}
 use Rattle.rk_line.specs.Places.{threads}
 use Rattle.rk_parts.specs.declared.parts.ClusterPart.{ClusterPart}
 use Rattle.rk_parts.specs.declared.parts.GroupPart.{GroupPart}
-use Rattle.rk_parts.specs.Threads.{is_ready, own_standing}
+use Rattle.rk_parts.specs.Threads.{StandAsNoted, is_ready, own_standing}
 use Rattle.rk_parts.specs.Joined.{listed, cluster_of, placed_in, lives_in, held, numbered, present_of, threads_of, clusters_of, clusters_by, joined, thread_lent}
 use Rattle.rk_parts.specs.Lent.{found_in, number_in, one_more, AreLaid, Layout, layout, layouts, Stored, stored_in, stored}
 use Rattle.rk_parts.specs.ClusterRegisters.{register}
-use Rattle.rk_parts.specs.Noted.{key_of, IsKeyed, no_part, part_at, standings_in, AreNoted, LinesHold, settled_part, bare}
+use Rattle.rk_parts.specs.Noted.{key_of, IsKeyed, no_part, part_at, standings_in, AreNoted, LinesHold, settled_part, bare, one_lives}
 use Rattle.rk_parts.specs.Settled.{settled_cluster, settled_from}
 use Rattle.rk_parts.proofs.ListedLemmas.{length-listed, same_listed, same_within}
 use Rattle.rk_parts.proofs.HeldLemmas.{held_found, held_nowhere, found_lives, found_within, nowhere_lives, lives_nowhere}
@@ -33,6 +35,8 @@ use Rattle.rk_parts.proofs.ReplaceLemmas.{number_is, number_within}
 use Rattle.rk_parts.proofs.LentTimerLemmas.{number_found, numbered_found, cluster_numbered}
 use Rattle.rk_parts.proofs.StandingLemmas.{standing_of, standing_own, standings_say}
 use Rattle.rk_parts.proofs.SettlingLemmas.{settle_each}
+use Rattle.rk_parts.proofs.MarkLemmas.{all_noted}
+use Rattle.rk_parts.proofs.RegisterFillLemmas.{nobody_changes}
 use Rattle.rk_parts.proofs.ClusterRegisterLemmas.{settled_by_register, keyed_by_register}
 
 -- ---- one part after another
@@ -46,6 +50,19 @@ one_settled last parts i part next all within is done told =
     let d : map (settled_part last) (drop i parts) ≡ settled_part last part ∷ map (settled_part last) (drop (i + 1) parts) =
     ap (map (settled_part last)) (drop_more parts i part within) ∙ ap (λ (p : ClusterPart). settled_part last p ∷ map (settled_part last) (drop (i + 1) parts)) (sym is) in
     rw (a, b, append_assoc, done) (rw d at told)
+
+pub no_items : (xs : List ℕ) → (length xs == 0) ≡ true → xs ≡ []
+no_items [] e = refl
+no_items (x ∷ xs) e = absurd (grind (arith, nat_tests, e))
+
+-- a part in which nobody is marked, and in which the one that goes last doesn't live, is settled
+pub settled_part_still : (marked : List ℕ) (last : Option ℕ) (part : ClusterPart) → marked ≡ [] → StandAsNoted marked part.threads.stood part.threads.places → length part.threads.places ≡ 64 → length part.threads.stood ≡ 64 → one_lives part.threads.places last ≡ false → settled no_changes part.lined ≡ part.lined →
+    bare part ≡ settled_part (option_to_list last) part
+settled_part_still marked last part none noted places stood elsewhere still =
+    let changes = nobody_changes marked part.threads.stood part.threads.places last part.lined.number none noted elsewhere in
+    let notes : part.threads.stood ≡ standings_in part = all_noted part.threads.places marked part.threads.stood places stood none noted in
+    let lined : part.lined ≡ settled (register part.threads.stood (standings_in part) (option_to_list last) part.lined.number) part.lined = sym (ap (λ f. settled f part.lined) changes ∙ still) in
+    λ i. record { present = part.present; lined = lined i; timers = part.timers; threads = record { places = part.threads.places; stood = notes i }; moves = [] }
 
 -- ---- whom a part holds
 

@@ -1,9 +1,11 @@
 -- What parts store of the threads fits them: how they stand, and their priorities in the ready queues.
-use Rattle.std.specs.Prelude.{ℕ, ◌≡◌, ◌<◌, List, [], ◌∷◌, map, length}
+use Rattle.std.specs.Prelude.{ℕ, ◌≡◌, ◌<◌, List, [], ◌∷◌, Bool, false, Option, Some, None, map, length}
 use Rattle.std.specs.List.{slice_index_or}
 use Rattle.rk_model.specs.declared.settling.Standing.{Standing}
-use Rattle.rk_model.specs.Lists.{has}
-use Rattle.rk_model.specs.State.{Plain, cluster_at}
+use Rattle.rk_model.specs.declared.state.Thread.{Thread}
+use Rattle.rk_model.specs.Lists.{has, nth}
+use Rattle.rk_model.specs.State.{Plain, no_thread, cluster_at}
+use Rattle.rk_model.specs.Directives.Objects.{has_begun}
 use Rattle.rk_model.specs.Scheduling.Priorities.{standing, nth_standing}
 use Rattle.rk_model.specs.Scheduling.Settling.{belongs}
 use Rattle.rk_line.specs.declared.line.Place.{Place}
@@ -47,6 +49,11 @@ pub record AreNoted (count : ℕ) (parts : List ClusterPart) : Type 0 where
 -- The ready queue of each cluster of a state has exactly the threads that belong there.
 abbrev pub LinesHold : Plain → Type 0
 LinesHold k = (c t : ℕ) → c < length k.clusters → has (cluster_at k c).line t ≡ belongs c (standing k t)
+
+-- whether a thread, if there is one, lives at its place among these
+abbrev pub one_lives : List Thread → Option ℕ → Bool
+one_lives places None = false
+one_lives places (Some t) = has_begun (nth no_thread places t).life
 
 -- a part after settling, where some threads go last: its cluster has followed the register, and it is noted how its threads stand
 abbrev pub settled_part : List ℕ → ClusterPart → ClusterPart

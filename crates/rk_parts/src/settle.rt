@@ -7,7 +7,7 @@ ghost use Rattle.rk_model.specs.Scheduling.Settling.{is_cluster, shift_of};
 ghost use Rattle.rk_cluster.specs.Registers.{change_at};
 ghost use Rattle.rk_parts.specs.Threads.{own_standing};
 ghost use Rattle.rk_parts.specs.ClusterRegisters.{change_by, register};
-ghost use Rattle.rk_parts.specs.Noted.{bare, settled_part};
+ghost use Rattle.rk_parts.specs.Noted.{bare, settled_part, one_lives};
 
 use crate::parts::ClusterPart;
 use crate::standing::own;
@@ -101,12 +101,27 @@ fn fill_register(out: &mut Moves, threads: &Threads, last: &Option<ThreadIx>, cl
     }
 }
 
+/// Whether the thread that goes last, if one does, lives in a part.
+fn lives_last(threads: &Threads, last: &Option<ThreadIx>) -> bool
+    ensures { result ≡ one_lives threads.now.places last.now }
+{
+    match last {
+        None => false,
+        Some(thread) => threads.lives(*thread),
+    }
+}
+
 /// Settles the part of a cluster after a change, where one thread may go last. It costs what the
 /// threads do that were put since the part settled.
 fn settle_part(part: &mut ClusterPart, last: &Option<ThreadIx>)
     ensures { bare part.new ≡ settled_part (option_to_list last.now) part.old }
 {
-    fill_register(&mut part.moves, &part.threads, last, part.lined.number());
+    // Reading the number tells that the processors are assigned.
+    let number = part.lined.number();
+    if part.threads.marked().is_empty() && !lives_last(&part.threads, last) {
+        return;
+    }
+    fill_register(&mut part.moves, &part.threads, last, number);
     part.lined.settle(&part.moves);
     part.threads.note();
 }

@@ -155,6 +155,7 @@ impl Threads {
     pub fn marked(&self) -> &[ThreadIx]
         ensures others { StandAsNoted result.now self.now.stood self.now.places }
         ensures places { length self.now.places ≡ 64 }
+        ensures stood { length self.now.stood ≡ 64 }
     {
         self.marked.as_slice()
     }
