@@ -28,3 +28,4 @@ pub mod RefusalLaws
 pub mod StepLemmas
 pub mod NamesLaws
 pub mod LowestHistoryLaws
+pub mod CutLemmas

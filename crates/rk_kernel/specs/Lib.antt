@@ -6,3 +6,4 @@ pub mod Step
 pub mod SchedulingLaws
 pub mod Manned
 pub mod Made
+pub mod Cut

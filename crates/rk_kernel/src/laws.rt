@@ -1,9 +1,10 @@
 //! Laws over the definitions: the contract of each function is a law, and calling it does nothing.
 //!
-//! Each speaks of the state after any legal history of a scenario, but for the last, which speaks
-//! of the planned history.
+//! Each speaks of the state after any legal history of a scenario, but for the last two: one speaks
+//! of the planned history, and one of every state.
 
 ghost use Rattle.rk_kernel.specs.SchedulingLaws.{LinesHoldTheirOwn, ProcessorsHaveTheRunners, RunnersAreTheMostUrgent, NoneRunsTwice, NamesAndObjectsAgree, NothingIsLeftOfDeletedTasks, NoneActsAtWork, RefusalsChangeTheCallerAlone, LowestGoesOn};
+ghost use Rattle.rk_kernel.specs.Cut.{SuspendNeedsItsClusterAlone};
 
 /// The ready queue of each cluster holds exactly the eligible threads of that home, each once.
 pub fn lines_hold_their_own()
@@ -52,4 +53,10 @@ pub fn refusals_change_the_caller_alone()
 /// The planned history ends with End, or has as many entries as it was cut to.
 pub fn lowest_goes_on()
     ensures { LowestGoesOn }
+{}
+
+/// `task.suspend` of a task of the caller's home needs that cluster's part alone: on it the answer is
+/// the same, and the state is the cut of that to which it comes on the whole.
+pub fn suspend_needs_its_cluster_alone()
+    ensures { SuspendNeedsItsClusterAlone }
 {}
