@@ -19,7 +19,7 @@ ghost use Rattle.rk_parts.specs.Joined.{plain_of, thread_lent, timers_lent};
 ghost use Rattle.rk_parts.specs.Whole.{AreWhole};
 
 use rk_model::{Answer, Op, Reply, Scenario, Thread, ThreadIx};
-use rk_parts::lent::{put, thread_of};
+use rk_parts::lent::{renew, thread_of};
 use rk_parts::parts::{AllParts, ClusterPart};
 use tasks::{
     task_create, task_delete, task_exit, task_ident, task_resume, task_set_priority, task_start,
@@ -36,7 +36,7 @@ fn back(clusters: &mut [ClusterPart], caller: ThreadIx, reply: Reply) -> Answer
         finished: None,
         ..thread
     };
-    put(clusters, caller, returned);
+    renew(clusters, caller, returned);
     Answer::Done(reply.status, reply.out, None)
 }
 

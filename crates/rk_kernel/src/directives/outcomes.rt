@@ -15,7 +15,7 @@ ghost use Rattle.rk_parts.specs.Lent.{Puts};
 
 use rk_model::{Answer, Armer, Op, Reply, Scenario, Status, Thread, ThreadIx, Wait};
 use rk_parts::arrival::arrive;
-use rk_parts::lent::{put, thread_of};
+use rk_parts::lent::{put, renew, thread_of};
 use rk_parts::parts::ClusterPart;
 use rk_parts::ticks::present;
 use rk_parts::timers::{arm, cancel};
@@ -75,7 +75,7 @@ fn go_on(scenario: &Scenario, clusters: &mut [ClusterPart], caller: ThreadIx, ou
     let vars = store(thread.vars, var, out);
     let told = Thread { vars, ..thread };
     let moved = arrive(scenario, told, told.line + 1);
-    put(clusters, caller, moved);
+    renew(clusters, caller, moved);
 }
 
 /// A reply without an out number.
