@@ -1,10 +1,10 @@
 -- To settle each of the parts is to settle the state that they stand for.
 use Rattle.std.proofs.Common.{◌≡◌, ℕ, zero, suc, ◌+◌, ◌<◌, ◌≤◌, List, [], ◌∷◌, ◌++◌, Bool, true, false, cond, not, ◌==◌, Option, Some, None, length, map, take, drop, arith, refl, sym, ap, ◌∙◌, get_or, set, subst, ⊎_elim, append_assoc}
 use Rattle.std.specs.Option.{option_to_list}
-use Rattle.std.specs.Bool.{if◌then◌else◌}
+use Rattle.std.specs.Bool.{IsTrue, if◌then◌else◌}
 use Rattle.std.proofs.lemmas.Bool.{false≢true, cases_lt}
 use Rattle.std.proofs.lemmas.Bool.Decides.{nat_tests}
-use Rattle.std.proofs.lemmas.List.{get_or-map, get_or_past, length-map, drop_more, take_more_set, drop-set-lt, map_push}
+use Rattle.std.proofs.lemmas.List.{get_or-map, get_or_past, length-map, drop_more, take_more, take_more_set, drop-set-lt, map_push}
 use Rattle.rk_model.specs.declared.scenario.Scenario.{Scenario}
 use Rattle.rk_model.specs.declared.settling.Standing.{Standing}
 use Rattle.rk_model.specs.declared.settling.Shift.{Shift}
@@ -51,9 +51,23 @@ one_settled last parts i part next all within is done told =
     ap (map (settled_part last)) (drop_more parts i part within) ∙ ap (λ (p : ClusterPart). settled_part last p ∷ map (settled_part last) (drop (i + 1) parts)) (sym is) in
     rw (a, b, append_assoc, done) (rw d at told)
 
+-- one part more is settled already
+pub one_still : (last : List ℕ) (parts : List ClusterPart) (i : ℕ) (part : ClusterPart) (all : List ClusterPart) → i < length parts → part ≡ get_or parts i part → bare part ≡ settled_part last part →
+    map bare (take i parts) ++ map (settled_part last) (drop i parts) ≡ all → map bare (take (i + 1) parts) ++ map (settled_part last) (drop (i + 1) parts) ≡ all
+one_still last parts i part all within is still told =
+    let a : map bare (take (i + 1) parts) ≡ map bare (take i parts) ++ bare part ∷ [] =
+    ap (map bare) (take_more parts i part within) ∙ map_push bare (take i parts) (get_or parts i part) ∙ ap (λ (p : ClusterPart). map bare (take i parts) ++ bare p ∷ []) (sym is) in
+    let d : map (settled_part last) (drop i parts) ≡ settled_part last part ∷ map (settled_part last) (drop (i + 1) parts) =
+    ap (map (settled_part last)) (drop_more parts i part within) ∙ ap (λ (p : ClusterPart). settled_part last p ∷ map (settled_part last) (drop (i + 1) parts)) (sym is) in
+    rw (a, append_assoc, still) (rw d at told)
+
 pub no_items : (xs : List ℕ) → (length xs == 0) ≡ true → xs ≡ []
 no_items [] e = refl
 no_items (x ∷ xs) e = absurd (grind (arith, nat_tests, e))
+
+pub is_false : (b : Bool) → IsTrue (not b) → b ≡ false
+is_false true h = sym h
+is_false false h = refl
 
 -- a part in which nobody is marked, and in which the one that goes last doesn't live, is settled
 pub settled_part_still : (marked : List ℕ) (last : Option ℕ) (part : ClusterPart) → marked ≡ [] → StandAsNoted marked part.threads.stood part.threads.places → length part.threads.places ≡ 64 → length part.threads.stood ≡ 64 → one_lives part.threads.places last ≡ false → settled no_changes part.lined ≡ part.lined →

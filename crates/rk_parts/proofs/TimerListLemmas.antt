@@ -18,13 +18,11 @@ pub record IsCancelled (who : Armer) (at : ℕ) (timers all : List Armed) : Type
   pub within : at ≤ length timers
   pub told : take at timers ++ without_timer who (drop at timers) ≡ without_timer who all
 
-pub cancelled_one : (who : Armer) (at : ℕ) (slice timers next all : List Armed) (x : Armed) → at < length timers → slice ≡ timers → true ≡ is_same (get_or slice at x).who who → next ≡ remove timers at → take at timers ++ without_timer who (drop at timers) ≡ without_timer who all → IsCancelled who at next all
-cancelled_one who at slice timers next all x within seen same taken told =
-    let test : is_same (get_or timers at x).who who ≡ true = ap (λ (zs : List Armed). is_same (get_or zs at x).who who) (sym seen) ∙ sym same in
-    record {
-      within = rw taken (omega (arith, length-remove timers at within, within));
-      told = rw taken (one_cancelled who timers at x within test ∙ told);
-    }
+pub cancelled_one : (who : Armer) (at : ℕ) (timers next all : List Armed) (x : Armed) → at < length timers → is_same (get_or timers at x).who who ≡ true → next ≡ remove timers at → take at timers ++ without_timer who (drop at timers) ≡ without_timer who all → IsCancelled who at next all
+cancelled_one who at timers next all x within same taken told = record {
+  within = rw taken (omega (arith, length-remove timers at within, within));
+  told = rw taken (one_cancelled who timers at x within same ∙ told);
+}
 
 -- the first timer that is due, taken out
 first_taken : (tick : ℕ) (timers : List Armed) (i : ℕ) (x : Armed) → i < length timers → is_due tick (get_or timers i x) ≡ true → remove timers i ≡ take i timers ++ without_due tick (drop i timers)

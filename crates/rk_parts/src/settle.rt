@@ -1,6 +1,6 @@
 //! Rescheduling: ready queues follow what the marked threads ask, and processors the ready queues.
 
-ghost use Rattle.std.specs.Prelude.{◌≡◌, map};
+ghost use Rattle.std.specs.Prelude.{◌≡◌, [], IsTrue, map};
 ghost use Rattle.std.specs.Option.{option_to_list};
 ghost use Rattle.rk_model.specs.Lists.{has};
 ghost use Rattle.rk_model.specs.Scheduling.Settling.{is_cluster, shift_of};
@@ -111,26 +111,55 @@ fn lives_last(threads: &Threads, last: &Option<ThreadIx>) -> bool
     }
 }
 
+/// Whether nobody is marked in a part, and the thread that goes last, if one does, lives elsewhere.
+/// Then the part is settled.
+fn is_settled(part: &ClusterPart, last: &Option<ThreadIx>) -> bool
+    ensures { IsTrue result → bare part.now ≡ settled_part (option_to_list last.now) part.now }
+{
+    // Reading the number tells that the processors are assigned.
+    let _number = part.lined.number();
+    part.threads.marked().is_empty() && !lives_last(&part.threads, last)
+}
+
 /// Settles the part of a cluster after a change, where one thread may go last. It costs what the
 /// threads do that were put since the part settled.
 fn settle_part(part: &mut ClusterPart, last: &Option<ThreadIx>)
     ensures { bare part.new ≡ settled_part (option_to_list last.now) part.old }
 {
-    // Reading the number tells that the processors are assigned.
     let number = part.lined.number();
-    if part.threads.marked().is_empty() && !lives_last(&part.threads, last) {
-        return;
-    }
     fill_register(&mut part.moves, &part.threads, last, number);
     part.lined.settle(&part.moves);
     part.threads.note();
+}
+
+/// Settles each of the lent parts, where no thread goes last.
+fn settle_marked(clusters: &mut [ClusterPart])
+    ensures { map bare clusters.new ≡ map (settled_part []) clusters.old }
+{
+    for at in 0..clusters.len() {
+        if !is_settled(&clusters[at], &None) {
+            settle_part(&mut clusters[at], &None);
+        }
+    }
+}
+
+/// Settles each of the lent parts, where one thread may go last.
+fn settle_last(clusters: &mut [ClusterPart], last: &Option<ThreadIx>)
+    ensures { map bare clusters.new ≡ map (settled_part (option_to_list last.now)) clusters.old }
+{
+    for at in 0..clusters.len() {
+        if !is_settled(&clusters[at], last) {
+            settle_part(&mut clusters[at], last);
+        }
+    }
 }
 
 /// Settles each of the lent parts.
 pub fn settle_parts(clusters: &mut [ClusterPart], last: &Option<ThreadIx>)
     ensures { map bare clusters.new ≡ map (settled_part (option_to_list last.now)) clusters.old }
 {
-    for at in 0..clusters.len() {
-        settle_part(&mut clusters[at], last);
+    match last {
+        None => settle_marked(clusters),
+        Some(_) => settle_last(clusters, last),
     }
 }

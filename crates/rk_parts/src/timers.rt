@@ -1,6 +1,6 @@
 //! The timers of the lent parts.
 
-ghost use Rattle.std.specs.Prelude.{◌≡◌, ◌<◌, ◌++◌, ◌∷◌, [], IfSome, IsSome, length, true};
+ghost use Rattle.std.specs.Prelude.{◌≡◌, ◌<◌, ◌≤◌, ◌++◌, ◌∷◌, [], IfSome, IsSome, length, take, drop, true};
 ghost use Rattle.std.specs.List.{slice_index_or};
 ghost use Rattle.rk_model.specs.declared.state.Armed.{Armed as ArmedView};
 ghost use Rattle.rk_model.specs.Directives.Objects.{has_begun};
@@ -50,17 +50,31 @@ fn is_same(armer: Armer, other: &Armer) -> bool
     }
 }
 
+/// The place of the first timer of one, from a place on; how many timers there are where there is
+/// none.
+fn next_of(timers: &[Armed], who: &Armer, from: usize) -> usize
+    requires { from ≤ length timers.now }
+    ensures within { result ≤ length timers.now }
+    ensures later { from ≤ result }
+    ensures passed { take result timers.now ++ without_timer who.now (drop result timers.now) ≡ take from timers.now ++ without_timer who.now (drop from timers.now) }
+    ensures found { (x : ArmedView) → result < length timers.now → same (slice_index_or timers.now result x).who who.now ≡ true }
+{
+    for at in from..timers.len() {
+        if is_same(timers[at].who, who) {
+            return at;
+        }
+    }
+    timers.len()
+}
+
 /// Takes out the timers of one.
 fn remove(timers: &mut Timers, who: &Armer)
     ensures { timers.new ≡ without_timer who.now timers.old }
 {
-    let mut at = 0;
+    let mut at = next_of(timers.as_slice(), who, 0);
     'looking: while at < timers.len() {
-        if is_same(timers.as_slice()[at].who, who) {
-            timers.take(at);
-        } else {
-            at += 1;
-        }
+        timers.take(at);
+        at = next_of(timers.as_slice(), who, at);
     }
 }
 

@@ -1,11 +1,10 @@
-use Rattle.std.proofs.Common.{sym, ℕ, [], ap, ◌∙◌}
+use Rattle.std.proofs.Common.{ℕ, [], ap, ◌∙◌}
 use Rattle.std.specs.Option.{option_to_list}
 use Rattle.rk_cluster.specs.Clusters.{Cluster, settled}
 use Rattle.rk_parts.specs.declared.parts.ClusterPart.{ClusterPart}
 use Rattle.rk_parts.specs.ClusterRegisters.{register}
 use Rattle.rk_parts.specs.Threads.{Threads}
 use Rattle.rk_parts.specs.Noted.{standings_in}
-use Rattle.rk_parts.proofs.SettledPartLemmas.{no_items, settled_part_still}
 use Rattle.rk_parts.proofs.settle.settle_part.Goals as goal
 
 pub returns : goal.returns
@@ -15,8 +14,3 @@ returns c =
     ∙ ap (λ (n : ℕ). settled (register part.threads.stood (standings_in part) (option_to_list c.args.last.now) n) part.lined) c.number-number.ensures.value in
     ap (λ (x : Cluster). (let p : ClusterPart = record part { lined = x; threads = c.note.new.self; moves = [] } in p)) lined
     ∙ ap (λ (x : Threads). (let p : ClusterPart = record part { lined = settled (register part.threads.stood (standings_in part) (option_to_list c.args.last.now) part.lined.number) part.lined; threads = x; moves = [] } in p)) c.note.ensures
-
-pub returns-then-not-lives_last : goal.returns-then-not-lives_last
-returns-then-not-lives_last c =
-    let none = no_items c.marked.result.now (sym c.is_empty.ensures ∙ c.if-is_empty.true) in
-    settled_part_still c.marked.result.now c.args.last.now c.args.part.now none c.marked.ensures.others c.marked.ensures.places c.marked.ensures.stood (sym c.lives_last.ensures ∙ c.if-not-lives_last.true) c.number-number.ensures.still

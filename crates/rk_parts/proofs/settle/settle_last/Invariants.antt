@@ -1,7 +1,7 @@
 use Rattle.std.proofs.Common.{◌≡◌, ◌++◌, map, take, drop, length}
 use Rattle.std.specs.Option.{option_to_list}
 use Rattle.rk_parts.specs.Noted.{bare, settled_part}
-use Rattle.rk_parts.proofs.settle.settle_parts.Given as goal
+use Rattle.rk_parts.proofs.settle.settle_last.Given as goal
 
 abbrev pub invariant-loop-at : goal.invariant-loop-at
 invariant-loop-at l = record {

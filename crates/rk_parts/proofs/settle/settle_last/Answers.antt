@@ -1,0 +1,28 @@
+use Rattle.std.proofs.Common.{◌≡◌, ◌<◌, length, arith, refl, ap, sym, ◌∙◌, subst, length-set}
+use Rattle.std.specs.Option.{option_to_list}
+use Rattle.rk_parts.specs.declared.parts.ClusterPart.{ClusterPart}
+use Rattle.rk_parts.specs.Noted.{settled_part, bare}
+use Rattle.rk_parts.proofs.SettledPartLemmas.{one_settled, one_still}
+use Rattle.rk_parts.proofs.settle.settle_last.Goals as goal
+use Rattle.rk_parts.proofs.settle.settle_last.Goals.{then-not-is_settled, else-not-is_settled}
+
+pub loop-at-preserved : goal.loop-at-preserved
+loop-at-preserved c =
+    let last = option_to_list c.args.last.now in
+    let parts = c.loop-at.clusters in
+    let at = c.loop-at.at in
+    let within : at < length parts = omega arith in
+    elim c.if-not-is_settled.branch [
+      | then-not-is_settled w ↦
+          rw w.clusters-is
+          (record {
+            size = length-set parts at w.settle_part.new.part ∙ c.loop-at.invariant.size;
+            told = one_settled last parts at w.index-clusters-at-then-not-is_settled.result w.settle_part.new.part _ within w.index-clusters-at-then-not-is_settled.is (w.settle_part.ensures ∙ ap (settled_part last) (sym w.index-clusters-at-then-not-is_settled.is)) c.loop-at.invariant.told;
+          })
+      | else-not-is_settled w ↦
+          rw w.clusters-is
+          (record {
+            size = c.loop-at.invariant.size;
+            told = one_still last parts at c.index-clusters-at.result _ within c.index-clusters-at.is (subst (λ (p : ClusterPart). bare p ≡ settled_part last p) (sym c.index-clusters-at.is) (w.if-not-is_settled.ensures refl)) c.loop-at.invariant.told;
+          })
+    ]
