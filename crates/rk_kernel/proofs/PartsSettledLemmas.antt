@@ -1,12 +1,13 @@
 -- All parts after a gentle change, and after settling.
 use Rattle.std.proofs.Common.{◌≡◌, ℕ, ◌<◌, ◌≤◌, List, Option, Some, None, length, map, replicate, sym, ap, ◌∙◌, subst, arith}
 use Rattle.std.proofs.lemmas.List.{length-map}
-use Rattle.std.specs.Prelude.{IfSome, IsSome}
+use Rattle.std.specs.Prelude.{IfSome}
 use Rattle.rk_model.specs.declared.scenario.Scenario.{Scenario}
 use Rattle.rk_model.specs.State.{Plain}
 use Rattle.rk_model.specs.Scheduling.Settling.{settle}
 use Rattle.rk_parts.specs.declared.parts.ClusterPart.{ClusterPart}
 use Rattle.rk_parts.specs.declared.parts.AllParts.{AllParts}
+use Rattle.rk_parts.specs.declared.processors.Calling.{Calling}
 use Rattle.rk_parts.specs.Joined.{present_of, plain_of}
 use Rattle.rk_parts.specs.Lent.{number_in, AreLaid, layouts, Stored, stored_in, stored, Frame, frame}
 use Rattle.rk_parts.specs.Noted.{settled_part, bare}
@@ -38,10 +39,10 @@ count_processors all ready = cpu_count_joined all.scenario all.table.names all.g
 pub few_processors : (all : AllParts) → IsReady all → cpus_in all.scenario.clusters ≤ 8
 few_processors all ready = omega (arith, ready.sound.few_cpus, count_processors all ready)
 
--- the lowest-numbered processor that has a directive is one of the state's
-pub least_within : (all : AllParts) (o : Option ℕ) → IsReady all → IfSome o (λ cpu. IsSome (caller (plain_of all) cpu) × (cpu < cpus_in all.scenario.clusters)) → IfSome o (λ cpu. IsSome (caller (plain_of all) cpu) × (cpu < cpu_count (plain_of all)) × (cpu < 8))
+-- the lowest-numbered processor that has a directive is one of the first eight
+pub least_within : (all : AllParts) (o : Option Calling) → IsReady all → IfSome o (λ calling. (caller (plain_of all) calling.cpu ≡ Some calling.thread) × (calling.cpu < cpus_in all.scenario.clusters)) → IfSome o (λ calling. (caller (plain_of all) calling.cpu ≡ Some calling.thread) × (calling.cpu < 8))
 least_within all None ready found = tt
-least_within all (Some cpu) ready found = (found.0, rw (count_processors all ready) found.1, omega (arith, found.1, few_processors all ready))
+least_within all (Some calling) ready found = (found.0, omega (arith, found.1, few_processors all ready))
 
 -- and the part of each is found by its number
 pub part_found : (all : AllParts) (c : ℕ) → IsReady all → c < length all.scenario.clusters → number_in all.clusters c ≡ Some c

@@ -1,8 +1,9 @@
 //! A step of the clock: work is charged, and the timers that are due fire.
 
-ghost use Rattle.std.specs.Prelude.{◌≡◌, ◌<◌, ◌≤◌, length};
+ghost use Rattle.std.specs.Prelude.{◌≡◌, ◌<◌, ◌≤◌, None, length};
 ghost use Rattle.rk_model.specs.declared.scenario.Scenario.{Scenario as ScenarioView};
 ghost use Rattle.rk_model.specs.Directives.Outcomes.{reply_at_timer};
+ghost use Rattle.rk_model.specs.Scheduling.Running.{least};
 ghost use Rattle.rk_model.specs.Scheduling.Ticks.{charged, charge_from, pass, rung, fire_cluster, fire_all};
 ghost use Rattle.rk_model.specs.Limits.{AreRunnable};
 ghost use Rattle.rk_parts.specs.Firing.{due_now, FiresFirst};
@@ -144,6 +145,22 @@ fn fire_all(all: &mut AllParts)
     }
 }
 
+/// A step of the clock where no processor has a directive.
+pub(crate) fn tick_quiet(all: &mut AllParts) -> CoreTick
+    requires ready { IsReady all.old }
+    requires once { RunOnce (plain_of all.old) }
+    requires quiet { least (plain_of all.old) ≡ None }
+    ensures step { IsTick (plain_of all.old) result (plain_of all.new) }
+    ensures ready { IsReady all.new }
+{
+    if present(&all.clusters) >= all.scenario.horizon {
+        return CoreTick::Ended;
+    }
+    pass(all);
+    fire_all(all);
+    CoreTick::Ticked
+}
+
 /// A step of the clock.
 pub(crate) fn tick_core(all: &mut AllParts) -> CoreTick
     requires ready { IsReady all.old }
@@ -151,13 +168,8 @@ pub(crate) fn tick_core(all: &mut AllParts) -> CoreTick
     ensures step { IsTick (plain_of all.old) result (plain_of all.new) }
     ensures ready { IsReady all.new }
 {
-    if let Some(cpu) = least_of(&all.scenario, &all.clusters) {
-        return CoreTick::NotYet(cpu);
+    match least_of(&all.scenario, &all.clusters) {
+        Some(calling) => CoreTick::NotYet(calling.cpu),
+        None => tick_quiet(all),
     }
-    if present(&all.clusters) >= all.scenario.horizon {
-        return CoreTick::Ended;
-    }
-    pass(all);
-    fire_all(all);
-    CoreTick::Ticked
 }

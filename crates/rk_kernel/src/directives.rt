@@ -12,6 +12,7 @@ ghost use Rattle.rk_model.specs.declared.entry.Reply.{Reply as ReplyView};
 ghost use Rattle.rk_model.specs.declared.scenario.Scenario.{Scenario as ScenarioView};
 ghost use Rattle.rk_model.specs.Directives.Objects.{has_begun};
 ghost use Rattle.rk_model.specs.Limits.{AreRunnable};
+ghost use Rattle.rk_model.specs.State.{thread_at};
 ghost use Rattle.rk_model.specs.Steps.{action, back, directive, is_wide};
 ghost use Rattle.rk_kernel.specs.Does.{Does, DoesAll};
 ghost use Rattle.rk_kernel.specs.Calls.{IsActing};
@@ -93,14 +94,14 @@ fn perform_at(all: &mut AllParts, caller: ThreadIx, op: Option<Op>) -> Answer
     }
 }
 
-/// Does the next action of a thread, but for what follows its answer.
+/// Does the next action of a thread, which is handed on as it is, but for what follows its answer.
 #[tactic(auto, unfolding(rk_model::specs::Steps::action))]
-pub(crate) fn action(all: &mut AllParts, caller: ThreadIx) -> Answer
+pub(crate) fn action(all: &mut AllParts, caller: ThreadIx, thread: &Thread) -> Answer
     requires acts { IsActing (plain_of all.old) caller }
     requires whole { AreWhole all.old }
+    requires thread { thread.now ≡ thread_at (plain_of all.old) caller }
     ensures { DoesAll (action (plain_of all.old) caller) result all.old all.new }
 {
-    let thread = thread_of(&all.clusters, caller);
     match thread.finished {
         Some(reply) => back(&mut all.clusters, caller, reply),
         None => {

@@ -1,19 +1,20 @@
-ghost use Rattle.std.specs.Prelude.{◌≡◌, ◌<◌, ◌≤◌, ◌+◌, ℕ, [], length, IfOk, IfSome, IsSome, Some, false};
+ghost use Rattle.std.specs.Prelude.{◌≡◌, ◌<◌, ◌≤◌, ◌+◌, ℕ, [], length, IfOk, IfSome, Some, None, false};
 ghost use Rattle.rk_model.specs.State.{Plain};
 ghost use Rattle.rk_model.specs.Scheduling.Running.{cpu_count, running, caller, least};
 ghost use Rattle.rk_model.specs.Steps.{act, clock_entry};
 ghost use Rattle.rk_model.specs.Histories.{opening, turn, lowest, lowest_from, next_of, is_end};
 ghost use Rattle.rk_model.specs.Text.Scenarios.{IsScenario};
+ghost use Rattle.rk_parts.specs.Seats.{seat_of};
 ghost use Rattle.rk_kernel.specs.Step.{IsStep, IsTick};
 ghost use Rattle.rk_kernel.specs.SchedulingLaws.{RefusesAlone};
 
-use crate::clock::tick_core;
+use crate::clock::{tick_core, tick_quiet};
 use crate::opening::make_opening;
-use crate::steps::{CoreStep, CoreTick, step_core};
+use crate::steps::{CoreStep, CoreTick, act_by, step_core};
 use rk_model::limits::{CLOCK, MOST_PROCESSORS, MOST_TICKS};
 use rk_model::{Entry, History, NoMemory, Scenario, View, What};
 use rk_parts::parts::AllParts;
-use rk_parts::processors::{count_cpus, least_of, view_on};
+use rk_parts::processors::{Calling, count_cpus, least_of, view_on};
 use rk_parts::ticks::present;
 use std::alloc::Global;
 use std::marker::Model;
@@ -113,12 +114,29 @@ pub fn replay(parts: &mut Parts, seat: u8)
     }
 }
 
-/// The lowest-numbered processor that has a directive.
-fn least_in(parts: &Parts) -> Option<u8>
-    ensures least { result ≡ least parts.now }
-    ensures found { IfSome result (λ cpu. IsSome (caller parts.now cpu) × (cpu < cpu_count parts.now) × (cpu < 8)) }
+/// The lowest-numbered processor that has a directive, and its thread.
+fn least_in(parts: &Parts) -> Option<Calling>
+    ensures least { seat_of result ≡ least parts.now }
+    ensures found { IfSome result (λ calling. (caller parts.now calling.cpu ≡ Some calling.thread) × (calling.cpu < 8)) }
 {
     least_of(&parts.all.scenario, &parts.all.clusters)
+}
+
+/// The directive of a processor's thread.
+fn call_in(parts: &mut Parts, calling: Calling) -> Entry
+    requires calls { caller parts.old calling.cpu ≡ Some calling.thread }
+    requires few { calling.cpu < 8 }
+    ensures { act parts.old calling.cpu ≡ Some (record { entry = result; next = parts.new }) }
+{
+    act_by(&mut parts.all, calling.cpu, calling.thread)
+}
+
+/// A step of the clock where no processor has a directive.
+fn tick_in(parts: &mut Parts) -> CoreTick
+    requires { least parts.old ≡ None }
+    ensures { IsTick parts.old result parts.new }
+{
+    tick_quiet(&mut parts.all)
 }
 
 /// An entry of the clock.
@@ -141,11 +159,8 @@ fn step_least(parts: &mut Parts) -> Entry
     ensures { act parts.old (turn parts.old) ≡ Some (record { entry = result; next = parts.new }) }
 {
     match least_in(parts) {
-        Some(cpu) => match step_all(parts, cpu) {
-            CoreStep::Did(entry) => entry,
-            CoreStep::Nothing(_) => unreachable!(),
-        },
-        None => match tick_all(parts) {
+        Some(calling) => call_in(parts, calling),
+        None => match tick_in(parts) {
             CoreTick::Ticked => entry_of_clock(What::Tick),
             CoreTick::Ended => entry_of_clock(What::End),
             CoreTick::NotYet(_) => unreachable!(),

@@ -39,7 +39,7 @@ pub enum CoreTick {
 }
 
 /// The thread's next action on a processor, and the settling after it.
-fn act_by(all: &mut AllParts, cpu: u8, thread: ThreadIx) -> Entry
+pub(crate) fn act_by(all: &mut AllParts, cpu: u8, thread: ThreadIx) -> Entry
     requires caller { caller (plain_of all.old) cpu ≡ Some thread }
     requires ready { IsReady all.old }
     ensures entry { result ≡ entry_of (plain_of all.old) cpu thread (answer_of (action (plain_of all.old) thread)) }
@@ -47,7 +47,7 @@ fn act_by(all: &mut AllParts, cpu: u8, thread: ThreadIx) -> Entry
     ensures ready { IsReady all.new }
 {
     let was = thread_of(&all.clusters, thread);
-    let answer = action(all, thread);
+    let answer = action(all, thread, &was);
     let reply = conclude(&all.scenario, &mut all.clusters, thread, &answer);
     let last = last_of(&answer);
     settle_parts(&mut all.clusters, &last);

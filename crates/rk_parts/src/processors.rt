@@ -1,6 +1,6 @@
 //! What the processors do whose parts are lent.
 
-ghost use Rattle.std.specs.Prelude.{◌≡◌, ◌<◌, ◌≤◌, List, length, IfSome, IsSome};
+ghost use Rattle.std.specs.Prelude.{◌≡◌, ◌<◌, ◌≤◌, List, length, Some, IfSome};
 ghost use Rattle.rk_model.specs.declared.scenario.Scenario.{Scenario as ScenarioView};
 ghost use Rattle.rk_model.specs.Names.{Table};
 ghost use Rattle.rk_model.specs.Scheduling.Running.{running, caller, least, why_of};
@@ -8,13 +8,22 @@ ghost use Rattle.rk_model.specs.Text.Scenarios.{cpus_in};
 ghost use Rattle.rk_parts.specs.declared.parts.GroupPart.{GroupPart};
 ghost use Rattle.rk_parts.specs.Joined.{joined};
 ghost use Rattle.rk_parts.specs.Lent.{layouts, AreLaid};
-ghost use Rattle.rk_parts.specs.Seats.{seat_in, is_seat};
+ghost use Rattle.rk_parts.specs.Seats.{seat_in, is_seat, seat_of};
 
 use crate::lent::thread_of;
 use crate::parts::ClusterPart;
 use crate::standing::spins;
 use rk_cluster::Cluster;
 use rk_model::{Scenario, ThreadIx, View, Why};
+
+/// A processor that has a directive, and the thread whose directive it is.
+#[derive(Clone, Copy, Debug, PartialEq, Eq)]
+pub struct Calling {
+    /// The number of the processor.
+    pub cpu: u8,
+    /// The thread.
+    pub thread: ThreadIx,
+}
 
 /// Whether a cluster has a processor.
 fn has_seat(cluster: &Cluster, cpu: u8) -> bool
@@ -90,16 +99,16 @@ pub fn why_not(clusters: &[ClusterPart], cpu: u8) -> Why
     }
 }
 
-/// The lowest-numbered processor that has a directive.
-pub fn least_of(scenario: &Scenario, clusters: &[ClusterPart]) -> Option<u8>
+/// The lowest-numbered processor that has a directive, and its thread.
+pub fn least_of(scenario: &Scenario, clusters: &[ClusterPart]) -> Option<Calling>
     requires laid { AreLaid scenario.now.clusters (layouts clusters.now) }
     requires few { cpus_in scenario.now.clusters ≤ 8 }
-    ensures least { (table : Table) (groups : List GroupPart) → result ≡ least (joined scenario.now table clusters.now groups) }
-    ensures found { (table : Table) (groups : List GroupPart) → IfSome result (λ cpu. IsSome (caller (joined scenario.now table clusters.now groups) cpu) × (cpu < cpus_in scenario.now.clusters)) }
+    ensures least { (table : Table) (groups : List GroupPart) → seat_of result ≡ least (joined scenario.now table clusters.now groups) }
+    ensures found { (table : Table) (groups : List GroupPart) → IfSome result (λ calling. (caller (joined scenario.now table clusters.now groups) calling.cpu ≡ Some calling.thread) × (calling.cpu < cpus_in scenario.now.clusters)) }
 {
     for cpu in 0..count_cpus(scenario) {
-        if caller_on(clusters, cpu).is_some() {
-            return Some(cpu);
+        if let Some(thread) = caller_on(clusters, cpu) {
+            return Some(Calling { cpu, thread });
         }
     }
     None

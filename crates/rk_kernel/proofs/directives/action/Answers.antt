@@ -16,7 +16,7 @@ returns-in-Some c =
     let all = c.args.all.now in
     let t = c.args.caller in
     let new : AllParts = record all { clusters = c.back.new.clusters } in
-    let ended : (thread_at (plain_of all) t).finished ≡ Some c.in-Some.reply = ap (λ (x : Thread). x.finished) (sym c.thread_of-thread.ensures) ∙ c.in-Some.is in
+    let ended : (thread_at (plain_of all) t).finished ≡ Some c.in-Some.reply = ap (λ (x : Thread). x.finished) (sym c.requires.thread) ∙ c.in-Some.is in
     subst (λ (o : Option Reply). DoesAll (action_on (plain_of all) t o) c.back.result all new) (sym ended)
     (all_narrow all c.back.new.clusters (λ (k : Plain). back k t c.in-Some.reply) c.back.result c.requires.whole (c.back.ensures all.scenario))
 
@@ -26,7 +26,7 @@ returns-in-None c =
     let all = c.args.all.now in
     let k = plain_of all in
     let t = c.args.caller in
-    let ended : (thread_at k t).finished ≡ None = ap (λ (x : Thread). x.finished) (sym c.thread_of-thread.ensures) ∙ c.in-None.is in
-    let op : c.op_at-op.result ≡ op_at all.scenario (thread_at k t).body (thread_at k t).line = c.op_at-op.ensures ∙ ap (λ (x : Thread). op_at all.scenario x.body x.line) c.thread_of-thread.ensures in
+    let ended : (thread_at k t).finished ≡ None = ap (λ (x : Thread). x.finished) (sym c.requires.thread) ∙ c.in-None.is in
+    let op : c.op_at-op.result ≡ op_at all.scenario (thread_at k t).body (thread_at k t).line = c.op_at-op.ensures ∙ ap (λ (x : Thread). op_at all.scenario x.body x.line) c.requires.thread in
     subst (λ (o : Option Reply). DoesAll (action_on k t o) c.perform_at.result all c.perform_at.new.all) (sym ended)
     (subst (λ (o : Option Op). DoesAll (directive k t o) c.perform_at.result all c.perform_at.new.all) op c.perform_at.ensures)

@@ -5,22 +5,21 @@ use Rattle.rk_parts.proofs.LentSeatLemmas.{cpu_count_joined}
 use Rattle.rk_parts.proofs.LeastProcessorLemmas.{least_here, least_later, least_nowhere}
 use Rattle.rk_parts.proofs.processors.least_of.Goals as goal
 
-pub returns-then-is_some-clause-least : goal.returns-then-is_some-clause-least
-returns-then-is_some-clause-least c = λ table groups.
+pub returns-in-Some-clause-least : goal.returns-in-Some-clause-least
+returns-in-Some-clause-least c = λ table groups.
     let s = c.args.scenario.now in
     let parts = c.args.clusters.now in
     let k = joined s table parts groups in
     let p = c.loop-cpu.cpu in
     let count = cpu_count_joined s table groups parts c.requires.laid in
     let within : p < cpu_count k = omega (arith, c.loop-cpu-test.true, c.count_cpus-cpu-end.ensures, count) in
-    let has : is_some (caller k p) ≡ true = ap is_some (sym (c.caller_on.ensures s table groups c.requires.laid)) ∙ sym c.is_some.ensures ∙ c.if-is_some.true in
+    let has : is_some (caller k p) ≡ true = ap is_some (sym (c.caller_on.ensures s table groups c.requires.laid) ∙ c.in-Some.is) in
     sym (least_here k p (cpu_count k) within has) ∙ c.loop-cpu.invariant table groups
 
-pub returns-then-is_some-clause-found : goal.returns-then-is_some-clause-found
-returns-then-is_some-clause-found c = λ table groups.
+pub returns-in-Some-clause-found : goal.returns-in-Some-clause-found
+returns-in-Some-clause-found c = λ table groups.
     let s = c.args.scenario.now in
-    let has = ap is_some (sym (c.caller_on.ensures s table groups c.requires.laid)) ∙ sym c.is_some.ensures ∙ c.if-is_some.true in
-    (has, omega (arith, c.loop-cpu-test.true, c.count_cpus-cpu-end.ensures))
+    (sym (c.caller_on.ensures s table groups c.requires.laid) ∙ c.in-Some.is, omega (arith, c.loop-cpu-test.true, c.count_cpus-cpu-end.ensures))
 
 pub loop-cpu-preserved : goal.loop-cpu-preserved
 loop-cpu-preserved c = λ table groups.
@@ -30,8 +29,8 @@ loop-cpu-preserved c = λ table groups.
     let p = c.loop-cpu.cpu in
     let count = cpu_count_joined s table groups parts c.requires.laid in
     let within : p < cpu_count k = omega (arith, c.loop-cpu-test.true, c.count_cpus-cpu-end.ensures, count) in
-    let has : is_some (caller k p) ≡ false = ap is_some (sym (c.caller_on.ensures s table groups c.requires.laid)) ∙ sym c.is_some.ensures ∙ c.if-is_some.false in
-    sym (least_later k p (cpu_count k) within has) ∙ c.loop-cpu.invariant table groups
+    let none : is_some (caller k p) ≡ false = ap is_some (sym (c.caller_on.ensures s table groups c.requires.laid) ∙ c.in_default.is) in
+    sym (least_later k p (cpu_count k) within none) ∙ c.loop-cpu.invariant table groups
 
 pub returns-clause-least : goal.returns-clause-least
 returns-clause-least c = λ table groups.
