@@ -1,6 +1,6 @@
 -- The digits of a number, written from the last to the first.
-use Rattle.std.proofs.Common.{◌≡◌, ◌≢◌, ℕ, zero, suc, ◌+◌, ◌-◌, ◌*◌, ◌/◌, ◌%◌, ◌^◌, ◌<◌, ◌≤◌, List, [], ◌∷◌, false, ◌==◌, length, drop, slice_set, sym, arith, refl}
-use Rattle.std.proofs.Math.Nat.{pow-suc, mul-le-mul_left, div-lt_iff_lt-mul}
+use Rattle.std.proofs.Common.{◌≡◌, ◌≢◌, ℕ, zero, suc, ◌+◌, ◌-◌, ◌*◌, ◌/◌, ◌%◌, ◌^◌, ◌<◌, ◌≤◌, List, [], ◌∷◌, false, ◌==◌, length, drop, slice_set, sym, ap, ◌∙◌, arith, refl}
+use Rattle.std.proofs.Math.Nat.{pow-suc, mod-eq_of_lt, div-eq_of_lt, mul-le-mul_left, div-lt_iff_lt-mul}
 use Rattle.std.proofs.lemmas.Bool.Decides.{nat_tests}
 use Rattle.std.proofs.lemmas.List.{drop-set}
 use Rattle.std.specs.Fmt.{digits, digits_onto, digit_glyph}
@@ -18,6 +18,11 @@ digits_before room base left written = digits_onto (54 + room) base false left w
 pub before_none : (base number : ℕ) → digits_before 10 base number [] ≡ digits base false number
 unfolding digits_before digits
 before_none base number = refl
+
+-- a number with one digit
+pub one_digit : (base number : ℕ) → number < base → digits base false number ≡ digit_glyph false number ∷ []
+unfolding digits
+one_digit base number few = last_digit 63 64 base number [] refl (div-eq_of_lt few) ∙ ap (λ n. digit_glyph false n ∷ []) (mod-eq_of_lt few)
 
 -- writing a digit that isn't the first
 pub before_more : (room base left digit : ℕ) (text : List ℕ) → 0 < room → room ≤ length text → left / base ≢ 0 → digit ≡ digit_glyph false (left % base) →
@@ -53,4 +58,4 @@ room_left zero left some few = absurd (some (omega arith))
 room_left (suc n) left some few = omega arith
 
 -- what the loop that writes them needs
-pub ruleset digit_steps = (before_none, before_more, before_last, fewer_left, room_left)
+pub ruleset digit_steps = (one_digit, before_none, before_more, before_last, fewer_left, room_left)

@@ -41,6 +41,10 @@ fn push_digits(out: &mut Vec<u8>, base: u32, number: u32) -> Result<(), NoMemory
     requires { (10 ≤ base) × (base ≤ 16) }
     ensures { OnOk result (out.new.items ≡ out.old.items ++ digits base false number) }
 {
+    if number < base {
+        let text = [digit(number)];
+        return push_bytes(out, text.as_slice());
+    }
     let mut text = [0u8; MOST_DIGITS];
     let mut start = MOST_DIGITS;
     let mut left = number;

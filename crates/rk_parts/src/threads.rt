@@ -139,8 +139,8 @@ impl Threads {
     pub fn put(&mut self, index: ThreadIx, thread: Thread)
         ensures { self.new ≡ record self.old { places = with_nth self.old.places index thread } }
     {
-        mark(&mut self.marked, index);
         self.places.set(index.at() as usize - 1, thread);
+        mark(&mut self.marked, index);
     }
 
     /// Puts a thread that stands as the one before it at an index.
