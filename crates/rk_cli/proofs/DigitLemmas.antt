@@ -58,4 +58,4 @@ room_left zero left some few = absurd (some (omega arith))
 room_left (suc n) left some few = omega arith
 
 -- what the loop that writes them needs
-pub ruleset digit_steps = (one_digit, before_none, before_more, before_last, fewer_left, room_left)
+pub ruleset digit_steps = (before_none, before_more, before_last, fewer_left, room_left)

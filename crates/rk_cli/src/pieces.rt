@@ -1,6 +1,6 @@
 //! Pieces of text, added at the end of what is being made.
 
-ghost use Rattle.std.specs.Prelude.{◌≡◌, ◌<◌, ◌≤◌, ◌++◌, OnOk, false};
+ghost use Rattle.std.specs.Prelude.{◌≡◌, ◌<◌, ◌≤◌, ◌++◌, ◌∷◌, [], OnOk, false};
 ghost use Rattle.std.specs.Fmt.{decimal, digits, digit_glyph};
 
 use rk_model::NoMemory;
@@ -41,10 +41,6 @@ fn push_digits(out: &mut Vec<u8>, base: u32, number: u32) -> Result<(), NoMemory
     requires { (10 ≤ base) × (base ≤ 16) }
     ensures { OnOk result (out.new.items ≡ out.old.items ++ digits base false number) }
 {
-    if number < base {
-        let text = [digit(number)];
-        return push_bytes(out, text.as_slice());
-    }
     let mut text = [0u8; MOST_DIGITS];
     let mut start = MOST_DIGITS;
     let mut left = number;
@@ -59,16 +55,35 @@ fn push_digits(out: &mut Vec<u8>, base: u32, number: u32) -> Result<(), NoMemory
     push_bytes(out, &text[start..])
 }
 
+/// Adds a number that has one digit.
+fn push_digit(out: &mut Vec<u8>, number: u32) -> Result<(), NoMemory>
+    requires { number < 16 }
+    ensures { OnOk result (out.new.items ≡ out.old.items ++ digit_glyph false number ∷ []) }
+{
+    let text = [digit(number)];
+    push_bytes(out, text.as_slice())
+}
+
 /// Adds a number in decimal digits.
+#[tactic(auto, using(crate::proofs::DigitLemmas::one_digit))]
 pub(crate) fn push_decimal(out: &mut Vec<u8>, number: u32) -> Result<(), NoMemory>
     ensures { OnOk result (out.new.items ≡ out.old.items ++ decimal number) }
 {
-    push_digits(out, 10, number)
+    if number < 10 {
+        push_digit(out, number)
+    } else {
+        push_digits(out, 10, number)
+    }
 }
 
 /// Adds a number in hexadecimal digits.
+#[tactic(auto, using(crate::proofs::DigitLemmas::one_digit))]
 pub(crate) fn push_hex(out: &mut Vec<u8>, number: u32) -> Result<(), NoMemory>
     ensures { OnOk result (out.new.items ≡ out.old.items ++ digits 16 false number) }
 {
-    push_digits(out, 16, number)
+    if number < 16 {
+        push_digit(out, number)
+    } else {
+        push_digits(out, 16, number)
+    }
 }

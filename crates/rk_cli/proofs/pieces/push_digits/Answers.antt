@@ -8,5 +8,5 @@ pub returns : goal.returns
 returns c =
     let l = c.loop-left in
     let at = l.start - 1 in
-    let written : take (10 - at) (drop at (slice_set l.text at c.digit-in-loop-left.result)) ≡ digits c.args.base false c.args.number = grind (arith, common_steps, before_last) in
-    rw written at c.push_bytes-2.ensures
+    let written : take (10 - at) (drop at (slice_set l.text at c.digit.result)) ≡ digits c.args.base false c.args.number = grind (arith, common_steps, before_last) in
+    rw written at c.push_bytes.ensures
