@@ -1,4 +1,7 @@
 pub mod Lines
 pub mod Outcomes
+pub mod Waits
 pub mod Objects
 pub mod Tasks
+pub mod Events
+pub mod Barriers

@@ -2,7 +2,7 @@ ghost use Rattle.std.specs.Prelude.{◌≡◌};
 ghost use Rattle.rk_model.specs.Text.Forms.{word_of, form_from, form_in};
 
 use crate::numbers::Name;
-use crate::scenario::{Op, Target};
+use crate::scenario::{Op, Target, Wish};
 
 /// A line of each form. What its operands are is of no account.
 pub const FORMS: &[Op] = &[
@@ -16,6 +16,13 @@ pub const FORMS: &[Op] = &[
     Op::TaskSetPriority(Target::Own, 0, 0),
     Op::TaskDelete(Target::Own),
     Op::TaskWakeAfter(0),
+    Op::EventSend(Target::Own, 0),
+    Op::EventReceive(0, false, Wish::NoWait, 0),
+    Op::BarrierCreate(Name { bits: 0 }, false, 0, 0),
+    Op::BarrierIdent(Name { bits: 0 }, 0),
+    Op::BarrierWait(Target::Own, 0),
+    Op::BarrierRelease(Target::Own, 0),
+    Op::BarrierDelete(Target::Own),
 ];
 
 impl Op {
@@ -34,6 +41,13 @@ impl Op {
             Op::TaskSetPriority(_, _, _) => "task.set_priority",
             Op::TaskDelete(_) => "task.delete",
             Op::TaskWakeAfter(_) => "task.wake_after",
+            Op::EventSend(_, _) => "event.send",
+            Op::EventReceive(_, _, _, _) => "event.receive",
+            Op::BarrierCreate(_, _, _, _) => "barrier.create",
+            Op::BarrierIdent(_, _) => "barrier.ident",
+            Op::BarrierWait(_, _) => "barrier.wait",
+            Op::BarrierRelease(_, _) => "barrier.release",
+            Op::BarrierDelete(_) => "barrier.delete",
         }
     }
 

@@ -1,7 +1,7 @@
 -- Objects by their class, index and name, and what the directives that make and name them share.
 use Rattle.std.specs.Prelude.{ℕ, List, [], ◌∷◌, Bool, true, false, Option, Some, None, ◌==◌, if◌then◌else◌}
 use Rattle.rk_model.specs.declared.ids.Class.{Class}
-use Rattle.rk_model.specs.declared.ids.Class.TheVariants.{Task}
+use Rattle.rk_model.specs.declared.ids.Class.TheVariants.{Task, Barrier}
 use Rattle.rk_model.specs.declared.state.Life.{Life}
 use Rattle.rk_model.specs.declared.state.Life.TheVariants.{Absent, Dormant, Started, Ended}
 use Rattle.rk_model.specs.declared.state.Thread.{Thread}
@@ -10,8 +10,10 @@ use Rattle.rk_model.specs.declared.status.Status.{Status}
 use Rattle.rk_model.specs.declared.status.Status.TheVariants.{InvalidName, TooMany}
 use Rattle.rk_model.specs.Ids.{id_of, index_in}
 use Rattle.rk_model.specs.Names.{Names, names_of, with_names, taken, given_back, least_named}
-use Rattle.rk_model.specs.State.{Plain, no_thread}
-use Rattle.rk_model.specs.Directives.Outcomes.{Outcome, Refused, done}
+use Rattle.rk_model.specs.declared.scenario.Target.{Target}
+use Rattle.rk_model.specs.declared.scenario.Target.TheVariants.{Var, Own, Given}
+use Rattle.rk_model.specs.State.{Plain, BarrierState, no_thread, no_barrier}
+use Rattle.rk_model.specs.Directives.Outcomes.{Outcome, Refused, done, var_at}
 
 -- the names of the objects of a class
 abbrev pub names_in : Plain → Class → Names
@@ -28,14 +30,15 @@ has_begun Dormant = true
 has_begun Started = true
 has_begun Ended = true
 
--- Whether the object of a class and an index has begun: a task that was created and not deleted. No object of another class begins.
-abbrev pub begun_in : List Thread → Class → ℕ → Bool
-begun_in threads Task index = has_begun (nth no_thread threads index).life
-begun_in threads class index = false
+-- Whether the object of a class and an index has begun: it was created and not deleted. So far there are tasks and barriers.
+abbrev pub begun_in : List Thread → List BarrierState → Class → ℕ → Bool
+begun_in threads barriers Task index = has_begun (nth no_thread threads index).life
+begun_in threads barriers Barrier index = (nth no_barrier barriers index).live
+begun_in threads barriers class index = false
 
 -- Whether an object of a class and an index lives: whether it has begun. Then, and only then, the index has a name, which is a law.
 abbrev pub is_live : Plain → Class → ℕ → Bool
-is_live k class index = begun_in k.threads class index
+is_live k class index = begun_in k.threads k.barriers class index
 
 -- an index of a class, if there is one and its object lives
 abbrev pub live_one : Plain → Class → Option ℕ → Option ℕ
@@ -45,6 +48,16 @@ live_one k class (Some index) = if is_live k class index then Some index else No
 -- the index of the live object of a class whose id the bits are; none where they are the id of no live object of that class
 abbrev pub object_of : Plain → Class → ℕ → Option ℕ
 object_of k class bits = live_one k class (index_in class bits)
+
+-- the bits of an id that a caller gives: the value of its variable, the id of its own task, or a number
+abbrev pub bits_of : Plain → ℕ → Target → ℕ
+bits_of k t (Var var) = var_at k t var
+bits_of k t Own = id_of Task t
+bits_of k t (Given bits) = bits
+
+-- the index of the live object of a class, which isn't that of tasks, for which a caller asks; none where the id is unknown
+abbrev pub object_named : Plain → ℕ → Class → Target → Option ℕ
+object_named k t class id = object_of k class (bits_of k t id)
 
 -- an object of a class is put at the first of the free indices; TOO_MANY where there is none
 abbrev pub create_at : Plain → Class → List ℕ → ℕ → (ℕ → Plain → Plain) → Outcome

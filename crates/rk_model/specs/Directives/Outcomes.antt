@@ -1,20 +1,15 @@
 -- What a directive comes to, and what the directives share.
-use Rattle.std.specs.Prelude.{ℕ, ◌+◌, List, Option, Some, None, ◌==◌, if◌then◌else◌}
+use Rattle.std.specs.Prelude.{ℕ, ◌+◌, List, Option, Some, None}
 use Rattle.std.specs.List.{slice_index_or, slice_set}
 use Rattle.rk_model.specs.declared.scenario.Scenario.{Scenario}
 use Rattle.rk_model.specs.declared.scenario.Op.{Op}
 use Rattle.rk_model.specs.declared.entry.Answer.{Answer}
 use Rattle.rk_model.specs.declared.entry.Answer.TheVariants as told
-use Rattle.rk_model.specs.declared.entry.Reply.{Reply}
 use Rattle.rk_model.specs.declared.status.Status.{Status}
 use Rattle.rk_model.specs.declared.status.Status.TheVariants.{Successful, InvalidId, Waits}
-use Rattle.rk_model.specs.declared.state.Armer.TheVariants.{Thread as OfThread}
-use Rattle.rk_model.specs.declared.state.Wait.{Wait}
-use Rattle.rk_model.specs.declared.state.Wait.TheVariants.{ForTime}
 use Rattle.rk_model.specs.declared.state.Thread.{Thread}
 use Rattle.rk_model.specs.Directives.Lines.{kind_at, landed_by, work_of, result_var}
 use Rattle.rk_model.specs.State.{Plain, thread_at, put_thread, op_at}
-use Rattle.rk_model.specs.Scheduling.Timers.{arm, cancel}
 
 -- What a directive comes to, before the caller goes on and the state settles.
 -- Refused: it has this status, and changes nothing; the caller goes on.
@@ -122,22 +117,3 @@ after_outcome k t o = concluded (answer_of o) (changed k o) t
 -- the value of a variable of a thread
 abbrev pub var_at : Plain → ℕ → ℕ → ℕ
 var_at k t var = slice_index_or (thread_at k t).vars var 0
-
--- the state in which a thread has begun to wait
-abbrev pub begin_wait : Plain → ℕ → Wait → Plain
-begin_wait k t wait = put_thread k t (record (thread_at k t) { wait = Some wait })
-
--- The state in which a thread has begun to wait with a limit of so many ticks, at which its timer is armed in its home; with 0 there is no limit.
-abbrev pub begin_limited : Plain → ℕ → Wait → ℕ → Plain
-begin_limited k t wait ticks =
-    if ticks == 0 then begin_wait k t wait
-    else arm (begin_wait k t wait) (thread_at k t).home (record { who = OfThread t; due = k.present + ticks })
-
--- The state in which a thread's wait has ended with a reply: its timer, if it has one, is cancelled, and it has the reply to return with.
-abbrev pub end_wait : Plain → ℕ → Reply → Plain
-end_wait k t reply = put_thread (cancel k (thread_at k t).home (OfThread t)) t (record (thread_at k t) { wait = None; finished = Some reply })
-
--- what a wait ends with when its timer fires
-abbrev pub reply_at_timer : Option Wait → Reply
-reply_at_timer None = record { status = Successful; out = 0 }
-reply_at_timer (Some ForTime) = record { status = Successful; out = 0 }

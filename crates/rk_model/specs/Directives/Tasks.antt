@@ -15,7 +15,8 @@ use Rattle.rk_model.specs.State.{Plain, no_thread, thread_at, put_thread}
 use Rattle.rk_model.specs.Scheduling.Timers.{cancel}
 use Rattle.rk_model.specs.Directives.Objects.{object_of, create, ident, without_object}
 use Rattle.rk_model.specs.Scheduling.Priorities.{home_prio}
-use Rattle.rk_model.specs.Directives.Outcomes.{Outcome, Refused, Done, Waiting, Gone, done, on_found, arrived, var_at, begin_limited}
+use Rattle.rk_model.specs.Directives.Outcomes.{Outcome, Refused, Done, Waiting, Gone, done, on_found, arrived, var_at}
+use Rattle.rk_model.specs.Directives.Waits.{begin_limited, leave}
 
 -- the task that a caller asks for by these bits: itself by 0, and else the live task whose id they are
 abbrev pub task_of : Plain → ℕ → ℕ → Option ℕ
@@ -86,11 +87,11 @@ task_set_priority k t id prio =
     else (if prio == 0 then done (home_prio k u) k
     else Done Successful (home_prio k u) (with_base k u prio) (Some u)))
 
--- the state in which a task lives no longer: its timer is cancelled, its index is free, and nothing is left of it
+-- the state in which a task lives no longer: it has left the queue of what it waited for, its timer is cancelled, its index is free, and nothing is left of it
 abbrev pub without_task : Plain → ℕ → Plain
-without_task k u = without_object (put_thread (cancel k (thread_at k u).home (OfThread u)) u no_thread) Task u
+without_task k u = without_object (put_thread (cancel (leave k u) (thread_at k u).home (OfThread u)) u no_thread) Task u
 
--- task.delete (rtems_task_delete): INVALID_ID where the task is unknown; else its timer is cancelled and it lives no longer. A caller that deletes itself has no next line.
+-- task.delete (rtems_task_delete): INVALID_ID where the task is unknown; else it leaves its queue, its timer is cancelled and it lives no longer. A caller that deletes itself has no next line.
 abbrev pub task_delete : Plain → ℕ → Target → Outcome
 task_delete k t id =
     on_found (task_named k t id) (λ u. if u == t then Gone Successful (without_task k u) else done 0 (without_task k u))

@@ -4,12 +4,13 @@ use Rattle.rk_model.specs.declared.scenario.Scenario.{Scenario}
 use Rattle.rk_model.specs.declared.state.Thread.{Thread}
 use Rattle.rk_model.specs.declared.state.Armed.{Armed}
 use Rattle.rk_model.specs.declared.state.Armer.{Armer}
-use Rattle.rk_model.specs.declared.state.Armer.TheVariants.{Thread as OfThread}
+use Rattle.rk_model.specs.declared.state.Armer.TheVariants.{Thread as OfThread, Period as OfPeriod}
 use Rattle.rk_model.specs.State.{Plain, thread_at, cluster_at}
 use Rattle.rk_model.specs.Scheduling.Settling.{settle}
 use Rattle.rk_model.specs.Scheduling.Running.{runs_somewhere}
 use Rattle.rk_model.specs.Scheduling.Timers.{due_at, take_due}
-use Rattle.rk_model.specs.Directives.Outcomes.{gone_on, end_wait, reply_at_timer}
+use Rattle.rk_model.specs.Directives.Outcomes.{gone_on}
+use Rattle.rk_model.specs.Directives.Waits.{end_wait, reply_at_timer}
 
 -- A thread that runs through a tick: where it computes, its work left falls by one and its count of computed ticks rises by one, and with no work left it goes on to its next line.
 abbrev pub charged : Scenario → Thread → Thread
@@ -31,9 +32,10 @@ charge_from k t (thread ∷ threads) = ticked k t thread ∷ charge_from k (t + 
 abbrev pub pass : Plain → Plain
 pass k = record k { present = k.present + 1; threads = charge_from k 1 k.threads }
 
--- the state in which a timer of this one has fired: the wait of its thread has ended
+-- the state in which a timer of this one has fired: the wait of its thread has ended; no period has a timer so far
 abbrev pub rung : Plain → Armer → Plain
 rung k (OfThread t) = end_wait k t (reply_at_timer (thread_at k t).wait)
+rung k (OfPeriod i) = k
 
 -- the state in which the first timer of a cluster that is due now is taken out and has fired
 abbrev pub expire : Plain → ℕ → Armer → Plain

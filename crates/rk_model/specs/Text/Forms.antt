@@ -1,12 +1,13 @@
 -- The forms of the lines of a body, a row for each: its first word, its operands, and the op that their values make.
-use Rattle.std.specs.Prelude.{ℕ, List, [], ◌∷◌, Option, Some, None, codes, if◌then◌else◌}
+use Rattle.std.specs.Prelude.{ℕ, Bool, List, [], ◌∷◌, Option, Some, None, codes, if◌then◌else◌}
 use Rattle.std.specs.Str.{bytes_eq}
 use Rattle.rk_model.specs.declared.limits.TheConstants.{MOST_TICKS}
 use Rattle.rk_model.specs.declared.forms.TheConstants.{FORMS}
 use Rattle.rk_model.specs.declared.numbers.Name.{Name as NameOf}
 use Rattle.rk_model.specs.declared.scenario.Target.{Target}
+use Rattle.rk_model.specs.declared.scenario.Wish.{Wish as WishOf}
 use Rattle.rk_model.specs.declared.scenario.Op.{Op}
-use Rattle.rk_model.specs.declared.scenario.Op.TheVariants.{Work, Goto, TaskCreate, TaskIdent, TaskStart, TaskSuspend, TaskResume, TaskSetPriority, TaskDelete, TaskWakeAfter}
+use Rattle.rk_model.specs.declared.scenario.Op.TheVariants.{Work, Goto, TaskCreate, TaskIdent, TaskStart, TaskSuspend, TaskResume, TaskSetPriority, TaskDelete, TaskWakeAfter, EventSend, EventReceive, BarrierCreate, BarrierIdent, BarrierWait, BarrierRelease, BarrierDelete}
 
 -- What a word behind the first stands for.
 pub data Operand : Type 0 where
@@ -24,6 +25,12 @@ pub data Operand : Type 0 where
   B : Operand
   -- the number of an earlier line of the body that isn't a goto
   Earlier : Operand
+  -- which events of a set: `any` or `all`
+  Mode : Operand
+  -- which kind of barrier: `manual` or `auto`
+  Kind : Operand
+  -- how long to wait: `nowait`, or a number of ticks
+  Wish : Operand
 
 -- any number of 32 bits
 abbrev pub Any : Operand
@@ -38,6 +45,9 @@ Value Var = ℕ
 Value Id = Target
 Value B = ℕ
 Value Earlier = ℕ
+Value Mode = Bool
+Value Kind = Bool
+Value Wish = WishOf
 
 -- what makes an op of the values of operands
 abbrev pub Makes : List Operand → Type 0
@@ -60,6 +70,13 @@ form_of (TaskResume id) = Row (codes "task.resume") (Id ∷ []) TaskResume
 form_of (TaskSetPriority id prio var) = Row (codes "task.set_priority") (Id ∷ Any ∷ Var ∷ []) TaskSetPriority
 form_of (TaskDelete id) = Row (codes "task.delete") (Id ∷ []) TaskDelete
 form_of (TaskWakeAfter n) = Row (codes "task.wake_after") (Any ∷ []) TaskWakeAfter
+form_of (EventSend id set) = Row (codes "event.send") (Id ∷ Any ∷ []) EventSend
+form_of (EventReceive set all wish var) = Row (codes "event.receive") (Any ∷ Mode ∷ Wish ∷ Var ∷ []) EventReceive
+form_of (BarrierCreate name automatic most var) = Row (codes "barrier.create") (Name0 ∷ Kind ∷ Any ∷ Var ∷ []) BarrierCreate
+form_of (BarrierIdent name var) = Row (codes "barrier.ident") (Name ∷ Var ∷ []) BarrierIdent
+form_of (BarrierWait id ticks) = Row (codes "barrier.wait") (Id ∷ Any ∷ []) BarrierWait
+form_of (BarrierRelease id var) = Row (codes "barrier.release") (Id ∷ Var ∷ []) BarrierRelease
+form_of (BarrierDelete id) = Row (codes "barrier.delete") (Id ∷ []) BarrierDelete
 
 -- the first word of a form
 abbrev pub word_in : Form → List ℕ

@@ -6,6 +6,8 @@ use Rattle.rk_model.specs.declared.scenario.Op.{Op}
 use Rattle.rk_model.specs.declared.numbers.Name.{Name as NameOf}
 use Rattle.rk_model.specs.declared.scenario.Target.{Target}
 use Rattle.rk_model.specs.declared.scenario.Target.TheVariants.{Var, Own, Given}
+use Rattle.rk_model.specs.declared.scenario.Wish.{Wish}
+use Rattle.rk_model.specs.declared.scenario.Wish.TheVariants.{NoWait, Limit}
 use Rattle.rk_model.specs.declared.scenario.Body.{Body}
 use Rattle.rk_model.specs.declared.scenario.Init.{Init}
 use Rattle.rk_model.specs.declared.scenario.Scenario.{Scenario}
@@ -132,6 +134,20 @@ name_operand word = named (name_of word)
 unfoldable pub body_operand : List Body → List ℕ → Result ℕ ScenarioWhy
 body_operand bodies word = known (body_of bodies word)
 
+-- the second of two words, as true, or the first
+unfoldable pub either_operand : List ℕ → List ℕ → List ℕ → Result Bool ScenarioWhy
+either_operand first second word =
+    if bytes_eq word second then Ok true
+    else (if bytes_eq word first then Ok false else Err NotYetBuilt)
+
+-- a WISH: `nowait`, or a number of ticks
+unfoldable pub wish_operand : List ℕ → Result Wish ScenarioWhy
+wish_operand word =
+    if bytes_eq word (codes "nowait") then Ok NoWait
+    else (do
+      ticks ← number_operand 0 4294967295 word
+      Ok (Limit ticks))
+
 -- the value of an operand that a word spells, in a line that may refer to what is known there
 unfoldable pub operand_of : Known → (o : Operand) → List ℕ → Result (Value o) ScenarioWhy
 operand_of told (Operand.Number least most) word = number_operand least most word
@@ -141,6 +157,9 @@ operand_of told Operand.Var word = var_operand word
 operand_of told Operand.Id word = id_operand word
 operand_of told Operand.B word = start_operand told word
 operand_of told Operand.Earlier word = goto_operand told.earlier word
+operand_of told Operand.Mode word = either_operand (codes "any") (codes "all") word
+operand_of told Operand.Kind word = either_operand (codes "manual") (codes "auto") word
+operand_of told Operand.Wish word = wish_operand word
 
 -- ---- the lines of a body
 

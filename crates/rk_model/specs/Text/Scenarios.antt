@@ -7,6 +7,8 @@ use Rattle.rk_model.specs.declared.scenario.Op.{Op}
 use Rattle.rk_model.specs.Directives.Lines.{kind_of, is_place}
 use Rattle.rk_model.specs.declared.scenario.Target.{Target}
 use Rattle.rk_model.specs.declared.scenario.Target.TheVariants.{Var, Own, Given}
+use Rattle.rk_model.specs.declared.scenario.Wish.{Wish}
+use Rattle.rk_model.specs.declared.scenario.Wish.TheVariants.{NoWait, Limit}
 use Rattle.rk_model.specs.declared.scenario.Body.{Body}
 use Rattle.rk_model.specs.declared.scenario.Init.{Init}
 use Rattle.rk_model.specs.declared.scenario.Scenario.{Scenario}
@@ -28,6 +30,16 @@ abbrev pub IsId : List ℕ → Target → Type 0
 IsId word (Var var) = var_of word ≡ Some var
 IsId word Own = word ≡ codes "self"
 IsId word (Given bits) = IsNumber word bits 0 4294967295
+
+-- The word is the first of two, or with true the second.
+abbrev pub IsEither : List ℕ → List ℕ → List ℕ → Bool → Type 0
+IsEither word first second false = word ≡ first
+IsEither word first second true = word ≡ second
+
+-- The word is a WISH: `nowait`, or a number of ticks.
+abbrev pub IsWish : List ℕ → Wish → Type 0
+IsWish word NoWait = word ≡ codes "nowait"
+IsWish word (Limit ticks) = IsNumber word ticks 0 4294967295
 
 -- whether a body has the name
 abbrev pub is_named : List ℕ → Body → Bool
@@ -86,6 +98,9 @@ IsSpelled known Operand.Var word var = var_of word ≡ Some var
 IsSpelled known Operand.Id word id = IsId word id
 IsSpelled known Operand.B word body = body_known known.bodies known.own word ≡ Some body
 IsSpelled known Operand.Earlier word n = IsEarlier known.earlier word n
+IsSpelled known Operand.Mode word all = IsEither word (codes "any") (codes "all") all
+IsSpelled known Operand.Kind word automatic = IsEither word (codes "manual") (codes "auto") automatic
+IsSpelled known Operand.Wish word wish = IsWish word wish
 
 -- The words spell values of the operands, one each, which make the op.
 abbrev pub Spell : Known → (operands : List Operand) → Makes operands → List (List ℕ) → Op → Type 0

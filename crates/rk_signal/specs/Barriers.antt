@@ -1,0 +1,109 @@
+-- What the directives of the barrier manager do to the barriers of a group.
+use Rattle.std.specs.Prelude.{ℕ, ◌≡◌, ◌+◌, ◌-◌, ◌%◌, ◌≤◌, ◌<◌, ◌≢◌, Bool, true, false, ◌&&◌, List, [], ◌∷◌, length, map, nat_le, if◌then◌else◌}
+use Rattle.std.specs.List.{repeat}
+use Rattle.rk_model.specs.declared.entry.Reply.{Reply}
+use Rattle.rk_model.specs.declared.limits.TheConstants.{MOST_OBJECTS}
+use Rattle.rk_model.specs.declared.status.Status.{Status}
+use Rattle.rk_model.specs.declared.status.Status.TheVariants.{Successful, Waits}
+use Rattle.rk_model.specs.declared.waiting.Caller.{Caller}
+use Rattle.rk_model.specs.declared.waiting.Order.TheVariants.{Fifo}
+use Rattle.rk_model.specs.declared.waiting.Wake.{Wake}
+use Rattle.rk_model.specs.Lists.{nth, with_nth}
+use Rattle.rk_queue.specs.declared.queue.Waiter.{Waiter}
+use Rattle.rk_queue.specs.Queues.{Queue, empty, entered, left_by}
+
+-- A place for a barrier: whether a barrier lives there, whether it is automatic, at how many waiters it is released then, and the queue of the threads that wait at it.
+pub record Stored : Type 0 where
+  pub live : Bool
+  pub automatic : Bool
+  pub most : ℕ
+  pub queue : Queue
+
+-- the place where no barrier lives
+abbrev pub no_stored : Stored
+no_stored = record { live = false; automatic = false; most = 0; queue = empty Fifo }
+
+-- the place of a barrier at which none waits
+abbrev pub barrier : Bool → ℕ → Stored
+barrier automatic most = record { live = true; automatic = automatic; most = most; queue = empty Fifo }
+
+-- Where no barrier lives, none waits.
+abbrev pub IsStored : Stored → Type 0
+IsStored stored = stored.live ≡ false → stored ≡ no_stored
+
+-- The barriers of a group: its number from 0 to 3, and a place for each index from 1 to 64.
+pub record Store : Type 0 where
+  pub group : ℕ
+  pub places : List Stored
+
+-- the store of a group in which no barrier lives
+abbrev pub none_live : ℕ → Store
+none_live group = record { group = group; places = repeat MOST_OBJECTS (no_stored ∷ []) }
+
+-- the group of an index from 1
+abbrev pub group_of : ℕ → ℕ
+group_of index = (index - 1) % 4
+
+-- The index is one of 1 to 64, and of the group.
+pub record IsOfGroup (group index : ℕ) : Type 0 where
+  pub low : 1 ≤ index
+  pub high : index ≤ MOST_OBJECTS
+  pub of : group_of index ≡ group
+
+-- There are places for 64 barriers, and at each index of another group none lives.
+pub record IsStore (store : Store) : Type 0 where
+  pub below : store.group < 4
+  pub count : length store.places ≡ MOST_OBJECTS
+  pub others : (index : ℕ) → group_of index ≢ store.group → nth no_stored store.places index ≡ no_stored
+
+-- the place of an index
+abbrev pub stored_at : Store → ℕ → Stored
+stored_at store index = nth no_stored store.places index
+
+-- the store with another place at an index
+abbrev pub put_at : Store → ℕ → Stored → Store
+put_at store index stored = record store { places = with_nth store.places index stored }
+
+-- the waiter as which a task waits
+abbrev pub waiter_of : Caller → Waiter
+waiter_of by = record { thread = by.thread; cluster = by.home; prio = by.prio }
+
+-- the place with one more waiter
+abbrev pub with_waiter : Caller → Stored → Stored
+with_waiter by stored = record stored { queue = entered (waiter_of by) stored.queue }
+
+-- the place without a thread that waits there
+abbrev pub without_waiter : ℕ → Stored → Stored
+without_waiter thread stored = record stored { queue = left_by thread stored.queue }
+
+-- the place at which none waits any more
+abbrev pub emptied : Stored → Stored
+emptied stored = record stored { queue = empty Fifo }
+
+-- the waits of these waiters ended with a status and without an out number, in order of arrival
+abbrev pub ended : Status → List Waiter → List Wake
+ended status waiters = map (λ (waiter : Waiter). record { thread = waiter.thread; status = status; out = 0 }) waiters
+
+-- whether one more waiter releases the barrier: it is automatic, and the waiters and this one are enough
+abbrev pub is_filled : Stored → Bool
+is_filled stored = stored.automatic && nat_le stored.most (length stored.queue.arrivals + 1)
+
+-- the answer of a directive that is done, with an out number
+abbrev pub successful : ℕ → Reply
+successful out = record { status = Successful; out = out }
+
+-- the answer of a directive that waits
+abbrev pub waits : Reply
+waits = record { status = Waits; out = 0 }
+
+-- rtems_barrier_wait: where the caller releases the barrier, none waits any more; else the caller waits
+abbrev pub waited : Caller → Stored → Stored
+waited by stored = if is_filled stored then emptied stored else with_waiter by stored
+
+-- and where it releases the barrier, all waits end with Successful,
+abbrev pub woken_by_wait : Stored → List Wake
+woken_by_wait stored = if is_filled stored then ended Successful stored.queue.arrivals else []
+
+-- and it goes on itself.
+abbrev pub reply_to_wait : Stored → Reply
+reply_to_wait stored = if is_filled stored then successful 0 else waits
