@@ -1,13 +1,13 @@
 -- The indices of live objects and the free ones.
-use Rattle.std.proofs.Common.{◌≡◌, ℕ, zero, suc, add-one, ◌+◌, ◌<◌, ◌≤◌, List, [], ◌∷◌, ◌++◌, Bool, true, false, cond, not, ◌&&◌, ◌||◌, ◌==◌, ltb, nat_le, length, arith, refl, sym, ap, ◌∙◌, IsTrue, Option, Some}
-use Rattle.std.specs.List.{filter, remove, position_or_len, range_with_len, slice_index_or}
+use Rattle.std.proofs.Common.{◌≡◌, ℕ, zero, suc, add-one, ◌+◌, ◌<◌, ◌≤◌, List, [], ◌∷◌, ◌++◌, Bool, true, false, cond, not, ◌&&◌, ◌==◌, nat_le, length, arith, refl, sym, ap, ◌∙◌, IsTrue, Option, Some}
+use Rattle.std.specs.List.{remove, range_with_len, slice_index_or}
 use Rattle.std.proofs.lemmas.List.{map-append, length-map, length-append}
 use Rattle.std.proofs.lemmas.Bool.{false≢true}
 use Rattle.std.proofs.lemmas.Bool.Decides.{nat_tests}
 use Rattle.rk_model.specs.declared.ids.Named.{Named}
 use Rattle.rk_model.specs.Lists.{has, times}
 use Rattle.rk_model.specs.Names.{Names, no_names, indices, lives, least_named}
-use Rattle.rk_model.proofs.CountLemmas.{times-append, times-filter, times-has, has_none, length_by_times, length_range, once_in_range, times_range}
+use Rattle.rk_model.proofs.CountLemmas.{times-append, times-has, length_by_times, length_range, once_in_range, times_range}
 use Rattle.rk_model.proofs.KeyLemmas.{position_at, without_key, position_within, times-without, removed}
 use Rattle.rk_ids.specs.LiveObjects.{IsSplit}
 use Rattle.rk_ids.proofs.LeastNameLemmas.{least_stands}

@@ -1,13 +1,12 @@
 -- The least index of the objects of a name.
-use Rattle.std.proofs.Common.{◌≡◌, ℕ, ◌≤◌, List, [], ◌∷◌, Bool, true, false, cond, ◌==◌, ◌||◌, min, Option, Some, None, IfSome, IfNone, ⊎_elim, arith, refl, ap, sym, subst, ◌∙◌}
+use Rattle.std.proofs.Common.{◌≡◌, ℕ, ◌≤◌, List, [], ◌∷◌, Bool, true, false, cond, ◌==◌, ◌||◌, min, Option, Some, None, ⊎_elim, arith, refl, ap, sym, subst, ◌∙◌}
 use Rattle.std.specs.List.{AllByRecursion, filter}
 use Rattle.std.proofs.lemmas.Bool.{cases_lt, false≢true}
 use Rattle.std.proofs.lemmas.Bool.Decides.{nat_tests}
 use Rattle.rk_model.specs.declared.ids.Named.{Named}
-use Rattle.rk_model.specs.declared.ids.Id.{Id}
 use Rattle.rk_model.specs.Lists.{has}
 use Rattle.rk_model.specs.Names.{lesser, least_named, indices}
-use Rattle.rk_ids.specs.LiveObjects.{Objects, optional_id, has_name, IsLeastNamed, NoneIsNamed}
+use Rattle.rk_ids.specs.LiveObjects.{has_name}
 
 -- the lesser of two indices, if there are any
 abbrev pub least_of : Option ℕ → Option ℕ → Option ℕ

@@ -1,42 +1,43 @@
 -- Timers that are due fire one after another, and each firing keeps a state sound.
-use Rattle.std.proofs.Common.{◌≡◌, ℕ, zero, suc, ◌+◌, ◌<◌, ◌≤◌, List, [], ◌∷◌, Bool, true, false, cond, eqb, not, Option, None, Some, length, map, get_or, arith, refl, ap, sym, ◌∙◌, subst, ⊎_elim}
+use Rattle.std.proofs.Common.{◌≡◌, ℕ, suc, ◌+◌, ◌<◌, ◌≤◌, List, [], ◌∷◌, Bool, true, false, cond, eqb, not, Option, None, Some, length, map, get_or, arith, refl, ap, sym, ◌∙◌, subst, ⊎_elim}
 use Rattle.std.specs.List.{slice_set}
 use Rattle.std.proofs.lemmas.List.{set-get_or, get_or-set_same, get_or_past, ext_get_or, length-map}
 use Rattle.std.proofs.lemmas.Bool.{false≢true, cases_lt}
 use Rattle.std.proofs.lemmas.Bool.Decides.{nat_tests}
 use Rattle.rk_model.specs.declared.entry.Reply.{Reply}
 use Rattle.rk_model.specs.declared.scenario.Scenario.{Scenario}
-use Rattle.rk_model.specs.declared.settling.Shift.{Shift}
 use Rattle.rk_model.specs.declared.state.Armed.{Armed}
 use Rattle.rk_model.specs.declared.state.Armer.{Armer}
-use Rattle.rk_model.specs.declared.state.Armer.TheVariants.{Thread as OfThread}
+use Rattle.rk_model.specs.declared.state.Armer.TheVariants.{Thread as OfThread, Period as OfPeriod}
 use Rattle.rk_model.specs.declared.state.Thread.{Thread}
 use Rattle.rk_model.specs.Lists.{nth}
 use Rattle.rk_model.specs.State.{Plain, ClusterState, no_cluster, no_thread, thread_at, cluster_at}
 use Rattle.rk_model.specs.Directives.Objects.{has_begun}
 use Rattle.rk_model.specs.Scheduling.Priorities.{standings}
-use Rattle.rk_parts.specs.Settled.{settled_from}
 use Rattle.rk_parts.proofs.SettlingLemmas.{settle_each}
-use Rattle.rk_model.specs.Scheduling.Timers.{is_same, times_armed, without_timer, due_at, is_due, without_due, take_due, cancel}
+use Rattle.rk_model.specs.Scheduling.Timers.{is_same, times_armed, without_timer, due_at, head_of, is_due, without_due, take_due, cancel}
 use Rattle.rk_model.specs.Scheduling.Ticks.{rung, expire, fire, fire_each}
-use Rattle.rk_model.specs.Directives.Outcomes.{end_wait, reply_at_timer}
+use Rattle.rk_model.specs.Directives.Waits.{end_wait, leave, reply_at_timer}
 use Rattle.rk_parts.specs.declared.parts.ClusterPart.{ClusterPart}
+use Rattle.rk_parts.specs.declared.parts.GroupPart.{GroupPart}
 use Rattle.rk_parts.specs.declared.parts.AllParts.{AllParts}
 use Rattle.rk_parts.specs.Threads.{own_standing}
 use Rattle.rk_parts.specs.Joined.{joined, placed_in, lives_in, numbered, present_of, threads_of, plain_of, thread_lent}
 use Rattle.rk_parts.specs.Lent.{found_in, AreLaid, Layout, layout, layouts, layout_at, lives_at, Stored, stored_in, Frame, frame, TakesDue}
 use Rattle.rk_parts.specs.Noted.{no_part, part_at, key_of, IsKeyed, AreNoted, settled_part, bare}
-use Rattle.rk_parts.specs.Firing.{head_of, due_now, FiresFirst}
+use Rattle.rk_parts.specs.Firing.{due_now, FiresFirst}
 use Rattle.rk_parts.proofs.HeldLemmas.{held_found, found_lives, nowhere_lives}
 use Rattle.rk_parts.proofs.LayoutLemmas.{Lie, lie, lives_is}
 use Rattle.rk_parts.proofs.LentTimerLemmas.{numbered_found, cluster_numbered}
 use Rattle.rk_parts.proofs.SettledPartLemmas.{thread_any, same_stored}
-use Rattle.rk_kernel.specs.Does.{Becomes, HasLife}
+use Rattle.rk_kernel.specs.Does.{BecomesBoth, HasLife}
 use Rattle.rk_kernel.specs.Ready.{IsReady}
-use Rattle.rk_kernel.specs.Sound.{IsSound, IsGentle, waits_in, is_waiting, is_in_call}
+use Rattle.rk_kernel.specs.Sound.{IsSound, IsGentleBut, IsGentle, but_none, but_one, waits_in, is_waiting, is_in_call}
 use Rattle.rk_model.proofs.BooleanLemmas.{equal_test, and_front, and_back}
 use Rattle.rk_kernel.proofs.ThreadBoundsLemmas.{bounds_at}
-use Rattle.rk_kernel.proofs.GentleChangeLemmas.{gentle_same, gentle_fewer, in_call_begun, waits_calls, gentle_end_wait}
+use Rattle.rk_kernel.proofs.GentleChangeLemmas.{gentle_same, gentle_but, gentle_fewer, in_call_begun, waits_calls, gentle_end_wait}
+use Rattle.rk_kernel.proofs.SoundSettlingLemmas.{timers-settled_from}
+use Rattle.rk_kernel.proofs.TieLemmas.{times-taken}
 use Rattle.rk_kernel.proofs.PartsSettledLemmas.{part_found, count_clusters, whole_kept, AreSettled, settled}
 use Rattle.rk_kernel.proofs.TimerLemmas.{timers_of, times-without_due}
 
@@ -73,12 +74,6 @@ one_gone tick t (timer ∷ timers) xs x whose due = by (is_due tick timer) due (
       let test : is_same timer.who (OfThread t) ≡ true = ap (λ (y : Armed). is_same y.who (OfThread t)) same ∙ ap (λ (w : Armer). is_same w (OfThread t)) whose ∙ equal_test t t refl in
       rw test (omega arith)
   by false due more = omega (arith, more due)
-
--- settling leaves the timers alone
-timers-settled_from : (shift : ℕ → ℕ → Shift) (key : ℕ → ℕ → ℕ) (n c : ℕ) (clusters : List ClusterState) (i : ℕ) → (get_or (settled_from shift key n c clusters) i no_cluster).timers ≡ (get_or clusters i no_cluster).timers
-timers-settled_from shift key n c [] i = refl
-timers-settled_from shift key n c (cluster ∷ clusters) zero = refl
-timers-settled_from shift key n c (cluster ∷ clusters) (suc i) = timers-settled_from shift key n (c + 1) clusters i
 
 -- to cancel the timer of one that has none changes nothing
 without_none : (who : Armer) (timers : List Armed) → times_armed who timers ≡ 0 → without_timer who timers ≡ timers
@@ -118,7 +113,8 @@ rung_clusters k c xs x (OfThread t) whose sound within due =
     let f = fires k c t xs x sound within due whose in
     let m = take_due k c in
     let none : times_armed (OfThread t) (cluster_at m (thread_at k t).home).timers ≡ 0 = ap (λ d. times_armed (OfThread t) (cluster_at m d).timers) f.home ∙ ap (times_armed (OfThread t)) (taken_timers k c within) ∙ f.alone in
-    ap (λ (n : Plain). n.clusters) (cancel_none m (thread_at k t).home (OfThread t) none)
+    ap (λ (n : Plain). n.clusters) (cancel_none (leave m t) (thread_at k t).home (OfThread t) none)
+rung_clusters k c xs x (OfPeriod i) whose sound within due = refl
 
 -- After the first timer that is due has fired, the others are due.
 pub due_now-fire : (k : Plain) (c : ℕ) (xs : List Armed) (x : Armed) → IsSound k → c < length k.clusters → due_now k c ≡ x ∷ xs → due_now (fire k c x) c ≡ xs
@@ -130,15 +126,22 @@ due_now-fire k c xs x sound within due =
   where
     rung_present : (m : Plain) (who : Armer) → (rung m who).present ≡ m.present
     rung_present m (OfThread t) = refl
+    rung_present m (OfPeriod i) = refl
 
 -- A timer that fires changes little.
 pub expire_gentle : (k : Plain) (c : ℕ) (xs : List Armed) (x : Armed) → IsSound k → c < length k.clusters → due_now k c ≡ x ∷ xs → IsGentle k (expire k c x.who)
 expire_gentle k c xs x sound within due = by x.who refl where
-  by : (who : Armer) → x.who ≡ who → IsGentle k (rung (take_due k c) who)
-  by (OfThread t) whose =
+  taken : (but : ℕ → Bool) → ((u : ℕ) → but u ≡ false → is_same x.who (OfThread u) ≡ false) → IsGentleBut k k but → IsGentleBut k (take_due k c) but
+  taken but apart gentle =
       let timers = (cluster_at k c).timers in
-      let taken = gentle_fewer k k c (without_due k.present timers) (gentle_same k sound) (λ u. times-without_due k.present u timers) in
-      gentle_end_wait k (take_due k c) t _ sound taken (fires k c t xs x sound within due whose).waits
+      gentle_fewer k k but c (without_due k.present timers) gentle (λ u. times-without_due k.present u timers) (λ u other. times-taken k.present u timers xs x (apart u other) due)
+
+  by : (who : Armer) → x.who ≡ who → IsGentle k (rung (take_due k c) who)
+  by (OfPeriod i) whose = taken but_none (λ u _. ap (λ w. is_same w (OfThread u)) whose) (gentle_same k sound)
+  by (OfThread t) whose =
+      gentle_end_wait k (take_due k c) t _ sound
+      (taken (but_one t) (λ u other. ap (λ w. is_same w (OfThread u)) whose ∙ grind (arith, nat_tests, other)) (gentle_but k k t (gentle_same k sound)))
+      (sound.tied.queued t refl) (fires k c t xs x sound within due whose).waits
 
 -- the timers behind the first
 abbrev pub rest_of : List Armed → List Armed
@@ -188,21 +191,31 @@ within_clusters all c known = omega (arith, count_clusters all, known)
 pub due_lives : (all : AllParts) (taken : List ClusterPart) (c : ℕ) (x : Armed) → IsReady all → c < length all.scenario.clusters → Some x ≡ head_of (due_now (plain_of all) c) → TakesDue all.clusters c taken → HasLife taken x.who
 due_lives all taken c x ready known some takes = by x.who refl where
   by : (who : Armer) → x.who ≡ who → HasLife taken who
+  by (OfPeriod i) whose = tt
   by (OfThread t) whose =
       let k = plain_of all in
       let same : threads_of taken ≡ k.threads = ap (λ (n : Plain). n.threads) (takes.state all.scenario all.table.names all.groups known) in
       ap (λ (ts : List Thread). has_begun (nth no_thread ts t).life) same ∙ lives_due k c t (rest_of (due_now k c)) x ready.sound (within_clusters all c known) (head_some (due_now k c) x some) whose
 
 -- A timer rings in lent parts where the wait of its thread ends.
-pub rings : (before after : List ClusterPart) (who : Armer) (t : ℕ) (thread : Thread) (reply : Reply) → who ≡ OfThread t → thread ≡ thread_lent before t → reply ≡ reply_at_timer thread.wait →
-    ((s : Scenario) → Becomes s (λ k. end_wait k t reply) before after) → (s : Scenario) → Becomes s (λ k. rung k who) before after
-rings before after who t thread reply whose is told ends s =
+pub rings : (before after : List ClusterPart) (groups groups' : List GroupPart) (who : Armer) (t : ℕ) (thread : Thread) (reply : Reply) → who ≡ OfThread t → thread ≡ thread_lent before t → reply ≡ reply_at_timer thread.wait →
+    ((s : Scenario) → BecomesBoth s (λ k. end_wait k t reply) before groups after groups') → (s : Scenario) → BecomesBoth s (λ k. rung k who) before groups after groups'
+rings before after groups groups' who t thread reply whose is told ends s =
     let same : reply ≡ reply_at_timer (thread_lent before t).wait = told ∙ ap (λ (x : Thread). reply_at_timer x.wait) is in
     record {
-      state = λ table groups laid.
-          (ends s).state table groups laid ∙ ap (end_wait (joined s table before groups) t) same ∙ ap (rung (joined s table before groups)) (sym whose);
+      state = λ table laid.
+          (ends s).state table laid ∙ ap (end_wait (joined s table before groups) t) same ∙ ap (rung (joined s table before groups)) (sym whose);
       kept = (ends s).kept;
+      framed = (ends s).framed;
     }
+
+-- Of a period nothing rings.
+pub silent : (parts : List ClusterPart) (groups : List GroupPart) (who : Armer) (i : ℕ) → who ≡ OfPeriod i → (s : Scenario) → BecomesBoth s (λ k. rung k who) parts groups parts groups
+silent parts groups who i whose s = record {
+  state = λ table laid. ap (rung (joined s table parts groups)) (sym whose);
+  kept = refl;
+  framed = refl;
+}
 
 -- a thread that lives in a part is the one that all of them hold
 held_here : (counts : List ℕ) (parts : List ClusterPart) (at t : ℕ) → Lie counts parts → lives_in (part_at parts at) t ≡ true → placed_in (part_at parts at) t ≡ thread_lent parts t
@@ -261,19 +274,19 @@ ready_same all new ready same kept = record {
 }
 
 -- The first timer that is due has fired in all parts, and they have settled.
-pub fired : (all : AllParts) (taken after new : List ClusterPart) (c : ℕ) (x : Armed) → IsReady all → c < length all.scenario.clusters → Some x ≡ head_of (due_now (plain_of all) c) → TakesDue all.clusters c taken → Becomes all.scenario (λ k. rung k x.who) taken after → map bare new ≡ map (settled_part []) after →
-    AreSettled all (record all { clusters = new }) (expire (plain_of all) c x.who) []
-fired all taken after new c x ready known some takes rings done =
+pub fired : (all : AllParts) (taken after new : List ClusterPart) (groups : List GroupPart) (c : ℕ) (x : Armed) → IsReady all → c < length all.scenario.clusters → Some x ≡ head_of (due_now (plain_of all) c) → TakesDue all.clusters c taken → BecomesBoth all.scenario (λ k. rung k x.who) taken all.groups after groups → map bare new ≡ map (settled_part []) after →
+    AreSettled all (record all { clusters = new; groups = groups }) (expire (plain_of all) c x.who) []
+fired all taken after new groups c x ready known some takes rings done =
     let k = plain_of all in
-    let mid : AllParts = record all { clusters = after } in
+    let mid : AllParts = record all { clusters = after; groups = groups } in
     let laid : AreLaid all.scenario.clusters (layouts taken) = subst (AreLaid all.scenario.clusters) (sym (ap (λ (f : Frame). f.layouts) takes.kept)) ready.whole.laid in
     settled all mid new (expire k c x.who) [] ready
     (record {
       gentle = expire_gentle k c (rest_of (due_now k c)) x ready.sound (within_clusters all c known) (head_some (due_now k c) x some);
-      state = expired k (plain_of (record all { clusters = taken })) (plain_of mid) c x (takes.state all.scenario all.table.names all.groups known) (rings.state all.table.names all.groups laid);
+      state = expired k (plain_of (record all { clusters = taken })) (plain_of mid) c x (takes.state all.scenario all.table.names all.groups known) (rings.state all.table.names laid);
       laid = subst (AreLaid all.scenario.clusters) (sym (ap (λ (f : Frame). f.layouts) rings.kept)) laid;
       kept = ap (λ (f : Frame). f.stored) (rings.kept ∙ takes.kept);
-      rest = refl;
+      rest = λ i. record { scenario = all.scenario; groups = rings.framed i; time = all.table.present };
     })
     done
 

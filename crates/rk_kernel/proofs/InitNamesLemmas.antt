@@ -1,5 +1,5 @@
 -- The names of the tasks of init lines agree with their threads.
-use Rattle.std.proofs.Common.{◌≡◌, ℕ, zero, suc, ◌+◌, ◌-◌, ◌<◌, ◌≤◌, List, [], ◌∷◌, ◌++◌, cond, false, ◌&&◌, nat_le, nat_lt, Option, length, map, take, get_or, length-take, length-append, arith, refl, sym, ap, ◌∙◌, subst}
+use Rattle.std.proofs.Common.{◌≡◌, ℕ, zero, suc, ◌+◌, ◌-◌, ◌<◌, ◌≤◌, List, [], ◌∷◌, ◌++◌, cond, false, ◌&&◌, nat_le, nat_lt, Option, length, map, take, get_or, length-take, length-append, replicate, arith, refl, sym, ap, ◌∙◌, subst}
 use Rattle.std.specs.List.{range_with_len}
 use Rattle.std.proofs.lemmas.List.{take_more}
 use Rattle.std.proofs.lemmas.Bool.{false≢true}
@@ -11,12 +11,12 @@ use Rattle.rk_model.specs.Lists.{nth, times}
 use Rattle.rk_model.specs.declared.ids.Class.{Class}
 use Rattle.rk_model.specs.declared.ids.Class.TheVariants.{Task, Semaphore, Partition, Period, Barrier}
 use Rattle.rk_model.specs.Names.{Names, Table, names_of, with_names, no_objects, indices, taken}
-use Rattle.rk_model.specs.State.{no_thread}
+use Rattle.rk_model.specs.State.{BarrierState, no_thread, no_barrier}
 use Rattle.rk_model.specs.Directives.Objects.{has_begun, begun_in}
 use Rattle.rk_model.specs.Histories.{begun, places, named_from, begun_names}
 use Rattle.rk_ids.specs.LiveObjects.{IsSplit}
 use Rattle.rk_ids.proofs.FreeIndexLemmas.{split_none}
-use Rattle.rk_parts.specs.NamesAgree.{TakesIn, AreNamed}
+use Rattle.rk_parts.specs.NamesAgree.{TakesIn, IsNamed, AreNamed}
 
 -- a number stands in a range where it is within it
 times_in_range : (t a n : ℕ) → times t (range_with_len a n) ≡ cond (nat_le a t && nat_lt t (a + n)) 1 0
@@ -62,28 +62,34 @@ blank_place s (suc n) (init ∷ inits) (suc i) none = blank_place s n inits i no
 abbrev pub begun_table : List Init → Table
 begun_table inits = record no_objects { tasks = begun_names inits }
 
-pub named_begun : (s : Scenario) (inits : List Init) → length inits ≤ 64 → AreNamed (begun_table inits) (places 64 (map (begun s) inits))
-named_begun s inits few = record { split = split; live = live; blank = blank } where
-  split : (class : Class) → IsSplit (names_of class (begun_table inits))
-  split Task = split_begun inits few
-  split Semaphore = split_none
-  split Partition = split_none
-  split Period = split_none
-  split Barrier = split_none
+-- where there are places alone there is no barrier
+pub no_hall : (n i : ℕ) → get_or (replicate n no_barrier) i no_barrier ≡ no_barrier
+no_hall zero i = refl
+no_hall (suc n) zero = refl
+no_hall (suc n) (suc i) = no_hall n i
 
-  live : (class : Class) (t : ℕ) → times t (indices (names_of class (begun_table inits)).live) ≡ cond (begun_in (places 64 (map (begun s) inits)) class t) 1 0
-  live Task t = ap (times t) (indices_from 1 inits) ∙ live_begun s 64 inits t few
-  live Semaphore t = refl
-  live Partition t = refl
-  live Period t = refl
-  live Barrier t = refl
+pub none_stands : (i : ℕ) → nth no_barrier (replicate 64 no_barrier) i ≡ no_barrier
+none_stands zero = refl
+none_stands (suc i) = no_hall 64 i
+
+pub named_begun : (s : Scenario) (inits : List Init) → length inits ≤ 64 → AreNamed (begun_table inits) (places 64 (map (begun s) inits)) (replicate 64 no_barrier)
+named_begun s inits few = record { class = class; blank = blank; bare = λ i _. none_stands i } where
+  nothing : (t : ℕ) → times t (indices (begun_table []).semaphores.live) ≡ 0
+  nothing t = refl
+
+  class : (c : Class) → IsNamed (names_of c (begun_table inits)) (begun_in (places 64 (map (begun s) inits)) (replicate 64 no_barrier) c)
+  class Task = record { split = split_begun inits few; live = λ t. ap (times t) (indices_from 1 inits) ∙ live_begun s 64 inits t few }
+  class Semaphore = record { split = split_none; live = nothing }
+  class Partition = record { split = split_none; live = nothing }
+  class Period = record { split = split_none; live = nothing }
+  class Barrier = record { split = split_none; live = λ t. ap (λ (x : BarrierState). cond x.live 1 0) (sym (none_stands t)) }
 
   blank : (t : ℕ) → has_begun (nth no_thread (places 64 (map (begun s) inits)) t).life ≡ false → nth no_thread (places 64 (map (begun s) inits)) t ≡ no_thread
   blank zero none = refl
   blank (suc i) none = blank_place s 64 inits i none
 
 -- where there is no task yet
-pub named_vacant : (s : Scenario) → AreNamed no_objects (places 64 [])
+pub named_vacant : (s : Scenario) → AreNamed no_objects (places 64 []) (replicate 64 no_barrier)
 named_vacant s = named_begun s [] (omega arith)
 
 -- one more init line has its name

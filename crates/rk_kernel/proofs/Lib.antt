@@ -1,10 +1,10 @@
 pub mod NamesAgreeLemmas
 pub mod ThreadBoundsLemmas
 pub mod TimerLemmas
+pub mod TieLemmas
 pub mod GentleChangeLemmas
 pub mod OutcomeLemmas
 pub mod DirectiveLemmas
-pub mod TimerRoomLemmas
 pub mod ReadyQueueLemmas
 pub mod SoundSettlingLemmas
 pub mod CallerLemmas
@@ -27,5 +27,6 @@ pub mod StillSettlingLemmas
 pub mod RefusalLaws
 pub mod StepLemmas
 pub mod NamesLaws
+pub mod WaitLaws
 pub mod LowestHistoryLaws
 pub mod CutLemmas

@@ -1,60 +1,36 @@
--- Names and objects agree, while tasks are made and removed.
+-- Names and objects agree, while objects are made and removed.
 use Rattle.std.proofs.Common.{◌≡◌, ◌≢◌, ℕ, ◌+◌, ◌≤◌, List, [], ◌∷◌, ◌++◌, Bool, true, false, cond, ◌==◌, ◌&&◌, not, nat_le, length, arith, refl, sym, ap, ◌∙◌}
 use Rattle.std.specs.List.{filter}
 use Rattle.std.proofs.lemmas.List.{map_push}
 use Rattle.std.proofs.lemmas.Bool.{false≢true}
 use Rattle.std.proofs.lemmas.Bool.Decides.{nat_tests}
 use Rattle.rk_model.specs.declared.ids.Class.{Class}
-use Rattle.rk_model.specs.declared.ids.Class.TheVariants.{Task}
+use Rattle.rk_model.specs.declared.ids.Class.TheVariants.{Task, Semaphore, Partition, Period, Barrier}
 use Rattle.rk_model.specs.declared.ids.Named.{Named}
 use Rattle.rk_model.specs.declared.state.Thread.{Thread}
 use Rattle.rk_model.specs.Lists.{nth, with_nth, times}
 use Rattle.rk_model.specs.Names.{Names, Table, names_of, with_names, indices, lives, taken, given_back}
-use Rattle.rk_model.specs.State.{no_thread}
+use Rattle.rk_model.specs.State.{BarrierState, no_thread, no_barrier}
 use Rattle.rk_model.specs.Directives.Objects.{has_begun, begun_in}
+use Rattle.rk_model.proofs.BooleanLemmas.{same_number}
 use Rattle.rk_model.proofs.CountLemmas.{same_either_way, times-append, has_times, has_none}
-use Rattle.rk_ids.specs.LiveObjects.{IsSplit}
 use Rattle.rk_ids.proofs.FreeIndexLemmas.{live_within, split_taken, split_given}
-use Rattle.rk_parts.specs.NamesAgree.{AreNamed}
+use Rattle.rk_parts.specs.NamesAgree.{IsNamed, AreNamed}
 use Rattle.rk_kernel.specs.Does.{IsFirst}
 use Rattle.rk_model.proofs.IndexLemmas.{nth-with_same, nth-with_other, nth-with_kept}
 
--- whether the thread of an index has begun
-abbrev begun_at : List Thread → ℕ → Bool
-begun_at threads t = has_begun (nth no_thread threads t).life
+-- ---- a class
 
 lives_by : (names : Names) (index : ℕ) (b : Bool) → times index (indices names.live) ≡ cond b 1 0 → lives names index ≡ b
 lives_by names index true once = has_times index (indices names.live) (omega (arith, once))
 lives_by names index false none = has_none index (indices names.live) none
 
--- an object lives where it has begun
-pub object_lives : (table : Table) (threads : List Thread) (class : Class) (index : ℕ) → AreNamed table threads → lives (names_of class table) index ≡ begun_in threads class index
-object_lives table threads class index named = lives_by (names_of class table) index (begun_in threads class index) (named.live class index)
-
--- a task lives where its life has begun
-pub task_lives : (table : Table) (threads : List Thread) (index : ℕ) → AreNamed table threads → lives table.tasks index ≡ has_begun (nth no_thread threads index).life
-task_lives table threads index named = object_lives table threads Task index named
-
--- a thread that lives is put back where one lives
-pub named_put : (table : Table) (threads : List Thread) (t : ℕ) (thread : Thread) → begun_at threads t ≡ true → has_begun thread.life ≡ true → AreNamed table threads → AreNamed table (with_nth threads t thread)
-named_put table threads t thread lives life named = record {
+-- where which objects have begun is the same, names agree with them still
+named_same : (names : Names) (begun begun' : ℕ → Bool) → ((u : ℕ) → begun' u ≡ begun u) → IsNamed names begun → IsNamed names begun'
+named_same names begun begun' same named = record {
   split = named.split;
-  live = λ class u. named.live class u ∙ ap (λ b. cond b 1 0) (sym (same class u));
-  blank = λ u none. (
-      let was : begun_at threads u ≡ false = sym (same Task u) ∙ none in
-      let other : u ≢ t = λ q. false≢true (sym was ∙ ap (begun_at threads) q ∙ lives) in
-      nth-with_other no_thread thread threads t u other ∙ named.blank u was);
-} where
-  same : (class : Class) (u : ℕ) → begun_in (with_nth threads t thread) class u ≡ begun_in threads class u
-  same Task u = nth-with_kept (λ (x : Thread). has_begun x.life) no_thread thread threads t u (life ∙ sym lives)
-  same class u = refl
-
--- an index that is free: it is one of the 64, and no task of it lives
-pub record IsFree (tasks : Names) (threads : List Thread) (index : ℕ) : Type 0 where
-  pub low : 1 ≤ index
-  pub high : index ≤ 64
-  pub unnamed : times index (indices tasks.live) ≡ 0
-  pub absent : has_begun (nth no_thread threads index).life ≡ false
+  live = λ u. named.live u ∙ ap (λ b. cond b 1 0) (sym (same u));
+}
 
 split_within : (i n : ℕ) (low high : Bool) → nat_le 1 i ≡ low → nat_le i 64 ≡ high → n + 1 ≤ cond (low && high) 1 0 → (1 ≤ i) × (i ≤ 64) × (n ≡ 0)
 split_within i n true true a b few =
@@ -68,115 +44,219 @@ not_live : (b : Bool) (n : ℕ) → n ≡ cond b 1 0 → n ≡ 0 → b ≡ false
 not_live true n e none = absurd (omega (arith, e, none))
 not_live false n e none = refl
 
--- the first free index is one of the 64, and no task of it lives
-first_within : (tasks : Names) (index : ℕ) (free : List ℕ) → IsSplit tasks → tasks.free ≡ index ∷ free → (1 ≤ index) × (index ≤ 64) × (times index (indices tasks.live) ≡ 0)
-first_within tasks index free split is =
-    let here : (index == index) ≡ true = grind (arith, nat_tests) in
-    let more : times index tasks.free ≡ 1 + times index free = ap (times index) is ∙ ap (λ b. cond b 1 0 + times index free) here in
-    let w = split_within index (times index (indices tasks.live) + times index free) (nat_le 1 index) (nat_le index 64) refl refl (omega (arith, split index, more)) in
-    (w.0, w.1, omega (arith, w.2))
-
-pub first_free : (table : Table) (threads : List Thread) (index : ℕ) (free : List ℕ) → AreNamed table threads → table.tasks.free ≡ index ∷ free → IsFree table.tasks threads index
-first_free table threads index free named is =
-    let w = first_within table.tasks index free (named.split Task) is in
-    record { low = w.0; high = w.1; unnamed = w.2; absent = not_live (begun_at threads index) _ (named.live Task index) w.2 }
-
--- no task of it lives
-pub first_absent : (table : Table) (threads : List Thread) (index : ℕ) → AreNamed table threads → IsFirst index table.tasks.free → has_begun (nth no_thread threads index).life ≡ false
-first_absent table threads index named is = by table.tasks.free refl is where
-  by : (free : List ℕ) → table.tasks.free ≡ free → IsFirst index free → has_begun (nth no_thread threads index).life ≡ false
-  by [] e is = absurd is
-  by (first ∷ more) e is = ap (λ i. has_begun (nth no_thread threads i).life) (sym is) ∙ (first_free table threads first more named e).absent
-
--- a task of an index from 1 to 64 that wasn't used lives then
-pub named_made : (table : Table) (threads : List Thread) (index : ℕ) (free : List ℕ) (name : ℕ) (thread : Thread) → AreNamed table threads → length threads ≡ 64 → table.tasks.free ≡ index ∷ free → has_begun thread.life ≡ true → AreNamed (with_names Task (taken table.tasks index free name) table) (with_nth threads index thread)
-named_made table threads index free name thread named size is life = record { split = split; live = live; blank = blank } where
-  now : begun_at (with_nth threads index thread) index ≡ true
-  now =
-      let f = first_free table threads index free named is in
-      ap (λ (x : Thread). has_begun x.life) (nth-with_same no_thread thread threads index f.low (omega (arith, f.high, size))) ∙ life
-
-  others : (u : ℕ) → u ≢ index → nth no_thread (with_nth threads index thread) u ≡ nth no_thread threads u
-  others u other = nth-with_other no_thread thread threads index u other
-
-  apart : (u : ℕ) → (index == u) ≡ false → u ≢ index
-  apart u e q = false≢true (sym e ∙ grind (arith, nat_tests, q))
-
-  split : (class : Class) → IsSplit (names_of class (with_names Task (taken table.tasks index free name) table))
-  split Task = split_taken table.tasks.live table.tasks.free free index name (named.split Task) is
-  split class = named.split class
-
-  count : (u : ℕ) → times u (indices (taken table.tasks index free name).live) ≡ times u (indices table.tasks.live) + cond (index == u) 1 0
-  count u =
-      let object : Named = record { index = index; name = record { bits = name } } in
-      let more : indices (table.tasks.live ++ object ∷ []) ≡ indices table.tasks.live ++ index ∷ [] = map_push (λ (x : Named). x.index) table.tasks.live object in
-      let e : times u (indices (table.tasks.live ++ object ∷ [])) ≡ times u (indices table.tasks.live) + times u (index ∷ []) = ap (times u) more ∙ times-append u (indices table.tasks.live) (index ∷ []) in
-      omega (arith, e)
-
-  by : (u : ℕ) (b : Bool) → (index == u) ≡ b → times u (indices table.tasks.live) + cond b 1 0 ≡ cond (begun_at (with_nth threads index thread) u) 1 0
-  by u true e =
-      let f = first_free table threads index free named is in
-      let same : index ≡ u = grind (arith, nat_tests, e) in
-      let none : times u (indices table.tasks.live) ≡ 0 = ap (λ v. times v (indices table.tasks.live)) (sym same) ∙ f.unnamed in
-      let here : begun_at (with_nth threads index thread) u ≡ true = ap (begun_at (with_nth threads index thread)) (sym same) ∙ now in
-      rw here (omega (arith, none))
-  by u false e =
-      let here : begun_at (with_nth threads index thread) u ≡ begun_at threads u = ap (λ (x : Thread). has_begun x.life) (others u (apart u e)) in
-      rw here (omega (arith, named.live Task u))
-
-  live : (class : Class) (u : ℕ) → times u (indices (names_of class (with_names Task (taken table.tasks index free name) table)).live) ≡ cond (begun_in (with_nth threads index thread) class u) 1 0
-  live Task u = count u ∙ by u (index == u) refl
-  live class u = named.live class u
-
-  blank : (u : ℕ) → begun_at (with_nth threads index thread) u ≡ false → nth no_thread (with_nth threads index thread) u ≡ no_thread
-  blank u none =
-      let other : u ≢ index = λ q. false≢true (sym none ∙ ap (begun_at (with_nth threads index thread)) q ∙ now) in
-      others u other ∙ named.blank u (sym (ap (λ (x : Thread). has_begun x.life) (others u other)) ∙ none)
-
--- an index at which a thread lives is one of the 64, and that of a live task
-pub record IsLive (tasks : Names) (index : ℕ) : Type 0 where
+-- an index that is free: it is one of the 64, has no name, and no object of it has begun
+pub record IsFree (names : Names) (begun : ℕ → Bool) (index : ℕ) : Type 0 where
   pub low : 1 ≤ index
   pub high : index ≤ 64
-  pub named : lives tasks index ≡ true
+  pub unnamed : times index (indices names.live) ≡ 0
+  pub absent : begun index ≡ false
 
-pub live_named : (table : Table) (threads : List Thread) (index : ℕ) → AreNamed table threads → has_begun (nth no_thread threads index).life ≡ true → IsLive table.tasks index
-live_named table threads index named life =
-    let is = task_lives table threads index named ∙ life in
-    let w = live_within table.tasks index (named.split Task) is in
-    record { low = w.0; high = w.1; named = is }
+-- the first free index is so
+named_free : (names : Names) (begun : ℕ → Bool) (index : ℕ) (free : List ℕ) → IsNamed names begun → names.free ≡ index ∷ free → IsFree names begun index
+named_free names begun index free named is =
+    let here : (index == index) ≡ true = grind (arith, nat_tests) in
+    let more : times index names.free ≡ 1 + times index free = ap (times index) is ∙ ap (λ b. cond b 1 0 + times index free) here in
+    let w = split_within index (times index (indices names.live) + times index free) (nat_le 1 index) (nat_le index 64) refl refl (omega (arith, named.split index, more)) in
+    let none : times index (indices names.live) ≡ 0 = omega (arith, w.2) in
+    record { low = w.0; high = w.1; unnamed = none; absent = not_live (begun index) _ (named.live index) none }
+
+-- no object of the first free index has begun
+pub first_absent : (names : Names) (begun : ℕ → Bool) (index : ℕ) → IsNamed names begun → IsFirst index names.free → begun index ≡ false
+first_absent names begun index named is = by names.free refl is where
+  by : (free : List ℕ) → names.free ≡ free → IsFirst index free → begun index ≡ false
+  by [] e is = absurd is
+  by (first ∷ more) e is = ap begun (sym is) ∙ (named_free names begun first more named e).absent
+
+-- an object has a name where it has begun
+pub lives_named : (names : Names) (begun : ℕ → Bool) (index : ℕ) → IsNamed names begun → lives names index ≡ begun index
+lives_named names begun index named = lives_by names index (begun index) (named.live index)
+
+-- an object of the first free index begins
+made : (names : Names) (begun begun' : ℕ → Bool) (index : ℕ) (free : List ℕ) (name : ℕ) → IsNamed names begun → names.free ≡ index ∷ free → begun' index ≡ true → ((u : ℕ) → u ≢ index → begun' u ≡ begun u) → IsNamed (taken names index free name) begun'
+made names begun begun' index free name named is now others = record { split = split_taken names.live names.free free index name named.split is; live = λ u. count u ∙ by u (index == u) refl } where
+  count : (u : ℕ) → times u (indices (taken names index free name).live) ≡ times u (indices names.live) + cond (index == u) 1 0
+  count u =
+      let object : Named = record { index = index; name = record { bits = name } } in
+      let more : indices (names.live ++ object ∷ []) ≡ indices names.live ++ index ∷ [] = map_push (λ (x : Named). x.index) names.live object in
+      let e : times u (indices (names.live ++ object ∷ [])) ≡ times u (indices names.live) + times u (index ∷ []) = ap (times u) more ∙ times-append u (indices names.live) (index ∷ []) in
+      omega (arith, e)
+
+  by : (u : ℕ) (b : Bool) → (index == u) ≡ b → times u (indices names.live) + cond b 1 0 ≡ cond (begun' u) 1 0
+  by u true e =
+      let same : index ≡ u = grind (arith, nat_tests, e) in
+      let none : times u (indices names.live) ≡ 0 = ap (λ v. times v (indices names.live)) (sym same) ∙ (named_free names begun index free named is).unnamed in
+      let here : begun' u ≡ true = ap begun' (sym same) ∙ now in
+      rw here (omega (arith, none))
+  by u false e =
+      let other : u ≢ index = λ q. false≢true (sym e ∙ grind (arith, nat_tests, q)) in
+      rw (others u other) (omega (arith, named.live u))
 
 -- the indices of all but one
 indices_without : (v u : ℕ) (live : List Named) → times v (indices (filter (λ (object : Named). not (object.index == u)) live)) ≡ cond (u == v) 0 (times v (indices live))
 indices_without v u [] = same_either_way (u == v) 0
 indices_without v u (object ∷ live) = grind (arith, nat_tests, indices_without v u live)
 
+-- an index whose object has begun is one of the 64, and has a name
+pub record IsLive (names : Names) (index : ℕ) : Type 0 where
+  pub low : 1 ≤ index
+  pub high : index ≤ 64
+  pub named : lives names index ≡ true
+
+live_named : (names : Names) (begun : ℕ → Bool) (index : ℕ) → IsNamed names begun → begun index ≡ true → IsLive names index
+live_named names begun index named life =
+    let is = lives_named names begun index named ∙ life in
+    let w = live_within names index named.split is in
+    record { low = w.0; high = w.1; named = is }
+
+-- an object of an index lives no longer
+ended : (names : Names) (begun begun' : ℕ → Bool) (u : ℕ) → IsNamed names begun → begun u ≡ true → begun' u ≡ false → ((v : ℕ) → v ≢ u → begun' v ≡ begun v) → IsNamed (given_back names u) begun'
+ended names begun begun' u named life gone others = record {
+  split = split_given names.live names.free u named.split (live_named names begun u named life).named;
+  live = λ v. indices_without v u names.live ∙ by v (u == v) refl;
+} where
+  by : (v : ℕ) (b : Bool) → (u == v) ≡ b → cond b 0 (times v (indices names.live)) ≡ cond (begun' v) 1 0
+  by v true e = let now : begun' v ≡ false = ap begun' (sym (same_number u v e)) ∙ gone in rw now refl
+  by v false e =
+      let other : v ≢ u = λ q. false≢true (sym e ∙ grind (arith, nat_tests, q)) in
+      rw (others v other) (named.live v)
+
+-- ---- the objects of a class, each at its index
+
+-- Names agree with a list of objects, of which these live; where none lives there is none.
+record AreSlots {X : Type 0} (none : X) (lives : X → Bool) (names : Names) (xs : List X) : Type 0 where
+  class : IsNamed names (λ u. lives (nth none xs u))
+  bare : (u : ℕ) → lives (nth none xs u) ≡ false → nth none xs u ≡ none
+
+-- other objects, of which the same live
+slots_same : {X : Type 0} (none : X) (lives : X → Bool) (names : Names) (xs ys : List X) → ((u : ℕ) → lives (nth none ys u) ≡ lives (nth none xs u)) → ((u : ℕ) → lives (nth none ys u) ≡ false → nth none ys u ≡ none) → AreSlots none lives names xs → AreSlots none lives names ys
+slots_same none lives names xs ys same bare slots = record { class = named_same names (λ u. lives (nth none xs u)) (λ u. lives (nth none ys u)) same slots.class; bare = bare }
+
+-- one that lives is put back where one lives
+slots_put : {X : Type 0} (none : X) (lives : X → Bool) (names : Names) (xs : List X) (i : ℕ) (x : X) → lives (nth none xs i) ≡ true → lives x ≡ true → AreSlots none lives names xs → AreSlots none lives names (with_nth xs i x)
+slots_put none lives names xs i x was life slots = slots_same none lives names xs (with_nth xs i x) same bare slots where
+  same : (u : ℕ) → lives (nth none (with_nth xs i x) u) ≡ lives (nth none xs u)
+  same u = nth-with_kept lives none x xs i u (life ∙ sym was)
+
+  bare : (u : ℕ) → lives (nth none (with_nth xs i x) u) ≡ false → nth none (with_nth xs i x) u ≡ none
+  bare u dead =
+      let before : lives (nth none xs u) ≡ false = sym (same u) ∙ dead in
+      let other : u ≢ i = λ q. false≢true (sym before ∙ ap (λ v. lives (nth none xs v)) q ∙ was) in
+      nth-with_other none x xs i u other ∙ slots.bare u before
+
+-- one of the first free index lives then
+slots_made : {X : Type 0} (none : X) (lives : X → Bool) (names : Names) (xs : List X) (i : ℕ) (free : List ℕ) (name : ℕ) (x : X) → length xs ≡ 64 → names.free ≡ i ∷ free → lives x ≡ true → AreSlots none lives names xs → AreSlots none lives (taken names i free name) (with_nth xs i x)
+slots_made none lives names xs i free name x size is life slots = record {
+  class = made names (λ u. lives (nth none xs u)) (λ u. lives (nth none (with_nth xs i x) u)) i free name slots.class is now (λ u other. ap lives (others u other));
+  bare = bare;
+} where
+  others : (u : ℕ) → u ≢ i → nth none (with_nth xs i x) u ≡ nth none xs u
+  others u other = nth-with_other none x xs i u other
+
+  now : lives (nth none (with_nth xs i x) i) ≡ true
+  now = let f = named_free names (λ u. lives (nth none xs u)) i free slots.class is in ap lives (nth-with_same none x xs i f.low (omega (arith, f.high, size))) ∙ life
+
+  bare : (u : ℕ) → lives (nth none (with_nth xs i x) u) ≡ false → nth none (with_nth xs i x) u ≡ none
+  bare u dead =
+      let other : u ≢ i = λ q. false≢true (sym dead ∙ ap (λ v. lives (nth none (with_nth xs i x) v)) q ∙ now) in
+      others u other ∙ slots.bare u (sym (ap lives (others u other)) ∙ dead)
+
+-- one that lived doesn't any more, its index is free, and nothing is left of it
+slots_ended : {X : Type 0} (none : X) (lives : X → Bool) (names : Names) (xs : List X) (i : ℕ) → length xs ≡ 64 → lives none ≡ false → lives (nth none xs i) ≡ true → AreSlots none lives names xs → AreSlots none lives (given_back names i) (with_nth xs i none)
+slots_ended none lives names xs i size gone life slots = record {
+  class = ended names (λ u. lives (nth none xs u)) (λ u. lives (nth none (with_nth xs i none) u)) i slots.class life (ap lives here ∙ gone) (λ u other. ap lives (others u other));
+  bare = λ u. by u (i == u) refl;
+} where
+  here : nth none (with_nth xs i none) i ≡ none
+  here = let n = live_named names (λ u. lives (nth none xs u)) i slots.class life in nth-with_same none none xs i n.low (omega (arith, n.high, size))
+
+  others : (u : ℕ) → u ≢ i → nth none (with_nth xs i none) u ≡ nth none xs u
+  others u other = nth-with_other none none xs i u other
+
+  by : (u : ℕ) (b : Bool) → (i == u) ≡ b → lives (nth none (with_nth xs i none) u) ≡ false → nth none (with_nth xs i none) u ≡ none
+  by u true e dead = ap (nth none (with_nth xs i none)) (sym (same_number i u e)) ∙ here
+  by u false e dead =
+      let other : u ≢ i = λ q. false≢true (sym e ∙ grind (arith, nat_tests, q)) in
+      others u other ∙ slots.bare u (sym (ap lives (others u other)) ∙ dead)
+
+-- ---- all classes
+
+-- an object lives where it has begun
+pub object_lives : (table : Table) (threads : List Thread) (barriers : List BarrierState) (class : Class) (index : ℕ) → AreNamed table threads barriers → lives (names_of class table) index ≡ begun_in threads barriers class index
+object_lives table threads barriers class index named = lives_named (names_of class table) (begun_in threads barriers class) index (named.class class)
+
+-- the names of tasks with the threads,
+abbrev AreTasks : Names → List Thread → Type 0
+AreTasks names threads = AreSlots no_thread (λ (x : Thread). has_begun x.life) names threads
+
+tasks_of : (table : Table) (threads : List Thread) (barriers : List BarrierState) → AreNamed table threads barriers → AreTasks table.tasks threads
+tasks_of table threads barriers named = record { class = named.class Task; bare = named.blank }
+
+with_tasks : (table : Table) (threads : List Thread) (barriers : List BarrierState) (names : Names) (threads' : List Thread) → AreNamed table threads barriers → AreTasks names threads' → AreNamed (with_names Task names table) threads' barriers
+with_tasks table threads barriers names threads' named slots = record { class = class; blank = slots.bare; bare = named.bare } where
+  class : (c : Class) → IsNamed (names_of c (with_names Task names table)) (begun_in threads' barriers c)
+  class Task = slots.class
+  class Semaphore = named.class Semaphore
+  class Partition = named.class Partition
+  class Period = named.class Period
+  class Barrier = named.class Barrier
+
+-- and those of barriers with the barriers
+abbrev AreBarriers : Names → List BarrierState → Type 0
+AreBarriers names barriers = AreSlots no_barrier (λ (x : BarrierState). x.live) names barriers
+
+barriers_named : (table : Table) (threads : List Thread) (barriers : List BarrierState) → AreNamed table threads barriers → AreBarriers table.barriers barriers
+barriers_named table threads barriers named = record { class = named.class Barrier; bare = named.bare }
+
+with_barriers : (table : Table) (threads : List Thread) (barriers : List BarrierState) (names : Names) (barriers' : List BarrierState) → AreNamed table threads barriers → AreBarriers names barriers' → AreNamed (with_names Barrier names table) threads barriers'
+with_barriers table threads barriers names barriers' named slots = record { class = class; blank = named.blank; bare = slots.bare } where
+  class : (c : Class) → IsNamed (names_of c (with_names Barrier names table)) (begun_in threads barriers' c)
+  class Task = named.class Task
+  class Semaphore = named.class Semaphore
+  class Partition = named.class Partition
+  class Period = named.class Period
+  class Barrier = slots.class
+
+-- names agree with threads and barriers of which the same have begun
+pub named_alike : (table : Table) (threads threads' : List Thread) (barriers barriers' : List BarrierState) → ((u : ℕ) → has_begun (nth no_thread threads' u).life ≡ has_begun (nth no_thread threads u).life) → ((u : ℕ) → (nth no_barrier barriers' u).live ≡ (nth no_barrier barriers u).live) → ((u : ℕ) → has_begun (nth no_thread threads' u).life ≡ false → nth no_thread threads' u ≡ no_thread) → ((u : ℕ) → (nth no_barrier barriers' u).live ≡ false → nth no_barrier barriers' u ≡ no_barrier) →
+    AreNamed table threads barriers → AreNamed table threads' barriers'
+named_alike table threads threads' barriers barriers' same alike blank bare named =
+    let tasks = with_tasks table threads barriers table.tasks threads' named (slots_same no_thread (λ (x : Thread). has_begun x.life) table.tasks threads threads' same blank (tasks_of table threads barriers named)) in
+    with_barriers table threads' barriers table.barriers barriers' tasks (slots_same no_barrier (λ (x : BarrierState). x.live) table.barriers barriers barriers' alike bare (barriers_named table threads barriers named))
+
+-- a thread that lives is put back where one lives
+pub named_put : (table : Table) (threads : List Thread) (barriers : List BarrierState) (t : ℕ) (thread : Thread) → has_begun (nth no_thread threads t).life ≡ true → has_begun thread.life ≡ true → AreNamed table threads barriers → AreNamed table (with_nth threads t thread) barriers
+named_put table threads barriers t thread was life named =
+    with_tasks table threads barriers table.tasks (with_nth threads t thread) named (slots_put no_thread (λ (x : Thread). has_begun x.life) table.tasks threads t thread was life (tasks_of table threads barriers named))
+
+-- so is a barrier
+pub named_kept : (table : Table) (threads : List Thread) (barriers : List BarrierState) (i : ℕ) (barrier : BarrierState) → (nth no_barrier barriers i).live ≡ true → barrier.live ≡ true → AreNamed table threads barriers → AreNamed table threads (with_nth barriers i barrier)
+named_kept table threads barriers i barrier was life named =
+    with_barriers table threads barriers table.barriers (with_nth barriers i barrier) named (slots_put no_barrier (λ (x : BarrierState). x.live) table.barriers barriers i barrier was life (barriers_named table threads barriers named))
+
+-- the first free index of tasks is one of the 64, and no task of it lives
+pub first_free : (table : Table) (threads : List Thread) (barriers : List BarrierState) (index : ℕ) (free : List ℕ) → AreNamed table threads barriers → table.tasks.free ≡ index ∷ free → IsFree table.tasks (begun_in threads barriers Task) index
+first_free table threads barriers index free named is = named_free table.tasks (begun_in threads barriers Task) index free (named.class Task) is
+
+-- so it is with barriers
+pub first_place : (table : Table) (threads : List Thread) (barriers : List BarrierState) (index : ℕ) (free : List ℕ) → AreNamed table threads barriers → table.barriers.free ≡ index ∷ free → IsFree table.barriers (begun_in threads barriers Barrier) index
+first_place table threads barriers index free named is = named_free table.barriers (begun_in threads barriers Barrier) index free (named.class Barrier) is
+
+-- a task of the first free index lives then
+pub named_made : (table : Table) (threads : List Thread) (barriers : List BarrierState) (index : ℕ) (free : List ℕ) (name : ℕ) (thread : Thread) → AreNamed table threads barriers → length threads ≡ 64 → table.tasks.free ≡ index ∷ free → has_begun thread.life ≡ true → AreNamed (with_names Task (taken table.tasks index free name) table) (with_nth threads index thread) barriers
+named_made table threads barriers index free name thread named size is life =
+    with_tasks table threads barriers (taken table.tasks index free name) (with_nth threads index thread) named (slots_made no_thread (λ (x : Thread). has_begun x.life) table.tasks threads index free name thread size is life (tasks_of table threads barriers named))
+
+-- so does a barrier
+pub named_placed : (table : Table) (threads : List Thread) (barriers : List BarrierState) (index : ℕ) (free : List ℕ) (name : ℕ) (barrier : BarrierState) → AreNamed table threads barriers → length barriers ≡ 64 → table.barriers.free ≡ index ∷ free → barrier.live ≡ true → AreNamed (with_names Barrier (taken table.barriers index free name) table) threads (with_nth barriers index barrier)
+named_placed table threads barriers index free name barrier named size is life =
+    with_barriers table threads barriers (taken table.barriers index free name) (with_nth barriers index barrier) named (slots_made no_barrier (λ (x : BarrierState). x.live) table.barriers barriers index free name barrier size is life (barriers_named table threads barriers named))
+
 -- a task that lived doesn't any more, its index is free, and nothing is left of it
-pub named_removed : (table : Table) (threads : List Thread) (u : ℕ) → AreNamed table threads → length threads ≡ 64 → has_begun (nth no_thread threads u).life ≡ true → AreNamed (with_names Task (given_back table.tasks u) table) (with_nth threads u no_thread)
-named_removed table threads u named size life = record { split = split; live = live; blank = blank } where
-  here : nth no_thread (with_nth threads u no_thread) u ≡ no_thread
-  here = let n = live_named table threads u named life in nth-with_same no_thread no_thread threads u n.low (omega (arith, n.high, size))
+pub named_removed : (table : Table) (threads : List Thread) (barriers : List BarrierState) (u : ℕ) → AreNamed table threads barriers → length threads ≡ 64 → has_begun (nth no_thread threads u).life ≡ true → AreNamed (with_names Task (given_back table.tasks u) table) (with_nth threads u no_thread) barriers
+named_removed table threads barriers u named size life =
+    with_tasks table threads barriers (given_back table.tasks u) (with_nth threads u no_thread) named (slots_ended no_thread (λ (x : Thread). has_begun x.life) table.tasks threads u size refl life (tasks_of table threads barriers named))
 
-  others : (v : ℕ) → (u == v) ≡ false → nth no_thread (with_nth threads u no_thread) v ≡ nth no_thread threads v
-  others v e = nth-with_other no_thread no_thread threads u v (λ q. false≢true (sym e ∙ grind (arith, nat_tests, q)))
-
-  there : (v : ℕ) → (u == v) ≡ true → nth no_thread (with_nth threads u no_thread) v ≡ no_thread
-  there v e = let same : u ≡ v = grind (arith, nat_tests, e) in ap (nth no_thread (with_nth threads u no_thread)) (sym same) ∙ here
-
-  split : (class : Class) → IsSplit (names_of class (with_names Task (given_back table.tasks u) table))
-  split Task = split_given table.tasks.live table.tasks.free u (named.split Task) (live_named table threads u named life).named
-  split class = named.split class
-
-  by : (v : ℕ) (b : Bool) → (u == v) ≡ b → cond b 0 (times v (indices table.tasks.live)) ≡ cond (begun_at (with_nth threads u no_thread) v) 1 0
-  by v true e = let now : begun_at (with_nth threads u no_thread) v ≡ false = ap (λ (x : Thread). has_begun x.life) (there v e) in rw now refl
-  by v false e = let now : begun_at (with_nth threads u no_thread) v ≡ begun_at threads v = ap (λ (x : Thread). has_begun x.life) (others v e) in rw now (named.live Task v)
-
-  live : (class : Class) (v : ℕ) → times v (indices (names_of class (with_names Task (given_back table.tasks u) table)).live) ≡ cond (begun_in (with_nth threads u no_thread) class v) 1 0
-  live Task v = indices_without v u table.tasks.live ∙ by v (u == v) refl
-  live class v = named.live class v
-
-  blank_by : (v : ℕ) (b : Bool) → (u == v) ≡ b → begun_at (with_nth threads u no_thread) v ≡ false → nth no_thread (with_nth threads u no_thread) v ≡ no_thread
-  blank_by v true e none = there v e
-  blank_by v false e none = others v e ∙ named.blank v (sym (ap (λ (x : Thread). has_begun x.life) (others v e)) ∙ none)
-
-  blank : (v : ℕ) → begun_at (with_nth threads u no_thread) v ≡ false → nth no_thread (with_nth threads u no_thread) v ≡ no_thread
-  blank v none = blank_by v (u == v) refl none
+-- so it is with a barrier
+pub named_vacated : (table : Table) (threads : List Thread) (barriers : List BarrierState) (i : ℕ) → AreNamed table threads barriers → length barriers ≡ 64 → (nth no_barrier barriers i).live ≡ true → AreNamed (with_names Barrier (given_back table.barriers i) table) threads (with_nth barriers i no_barrier)
+named_vacated table threads barriers i named size life =
+    with_barriers table threads barriers (given_back table.barriers i) (with_nth barriers i no_barrier) named (slots_ended no_barrier (λ (x : BarrierState). x.live) table.barriers barriers i size refl life (barriers_named table threads barriers named))

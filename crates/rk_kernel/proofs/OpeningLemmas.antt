@@ -1,5 +1,5 @@
 -- The opening state is sound: it is the state with no task yet, changed gently and settled. How its tasks are started one after another.
-use Rattle.std.proofs.Common.{◌≡◌, ℕ, zero, suc, ◌+◌, ◌<◌, ◌≤◌, List, [], ◌∷◌, false, ◌==◌, Option, None, length, get_or, length-append, length-take, ◌++◌, take, map, replicate, arith, refl, ap, sym, ◌∙◌}
+use Rattle.std.proofs.Common.{◌≡◌, ℕ, zero, suc, ◌+◌, ◌<◌, ◌≤◌, List, [], ◌∷◌, false, cond, ◌==◌, Option, None, length, get_or, length-append, length-take, ◌++◌, take, map, replicate, arith, refl, ap, sym, ◌∙◌}
 use Rattle.std.specs.List.{AllByRecursion, range_with_len, slice_set}
 use Rattle.std.proofs.lemmas.List.{length-replicate, length-map, map-append, take_more, take_all}
 use Rattle.std.proofs.lemmas.List.Elements.{All-from_recursion}
@@ -11,7 +11,8 @@ use Rattle.rk_model.specs.declared.state.Thread.{Thread}
 use Rattle.rk_model.specs.Lists.{nth, with_nth, times}
 use Rattle.rk_model.specs.Names.{Table, no_objects}
 use Rattle.rk_model.specs.Directives.Objects.{has_begun}
-use Rattle.rk_model.specs.State.{Plain, no_thread, thread_at, put_thread}
+use Rattle.rk_model.specs.State.{Plain, BarrierState, ClusterState, no_thread, no_barrier, thread_at, put_thread}
+use Rattle.rk_model.specs.Directives.Waits.{OfBarrier, object_of_wait, is_for}
 use Rattle.rk_model.specs.Scheduling.Priorities.{is_eligible}
 use Rattle.rk_model.specs.Scheduling.ReadyQueues.{has_cpu}
 use Rattle.rk_model.specs.Scheduling.Running.{all_cpus}
@@ -21,9 +22,9 @@ use Rattle.rk_model.specs.Limits.{IsWithinLimits}
 use Rattle.rk_parts.specs.declared.parts.ClusterPart.{ClusterPart}
 use Rattle.rk_parts.specs.declared.parts.GroupPart.{GroupPart}
 use Rattle.rk_parts.specs.Joined.{joined, thread_lent}
-use Rattle.rk_kernel.proofs.InitNamesLemmas.{named_vacant, named_begun}
+use Rattle.rk_kernel.proofs.InitNamesLemmas.{none_stands, named_vacant, named_begun}
 use Rattle.rk_kernel.proofs.ThreadBoundsLemmas.{none_bounds, arrived_bounds}
-use Rattle.rk_kernel.specs.Sound.{stands, own, AllSound, IsInBounds, IsSound, AllTimed, IsGentle}
+use Rattle.rk_kernel.specs.Sound.{stands, own, AllSound, IsInBounds, IsSound, AllTimed, IsGentle, IsQueued, AreTied, but_none, is_asleep}
 use Rattle.rk_model.proofs.CountLemmas.{times-filter}
 use Rattle.rk_model.proofs.BooleanLemmas.{and_false}
 use Rattle.rk_kernel.proofs.TimerLemmas.{keeps_same}
@@ -90,11 +91,32 @@ all_begun s m zero inits within some homes = tt
 all_begun s m (suc n) [] within some homes = (none_bounds s m 0 some, all_begun s m n [] within some tt)
 all_begun s m (suc n) (init ∷ inits) within some homes = (bounds_begun s init m within homes.0, all_begun s m n inits within some homes.1)
 
+-- where no thread waits and nobody stands in a queue, waits agree with queues and timers
+tied_free : (threads : List Thread) (clusters : List ClusterState) → ((t : ℕ) → (nth no_thread threads t).wait ≡ None) → AreTied (replicate 64 no_barrier) threads clusters but_none
+tied_free threads clusters free = record {
+  queued = λ t _. queue t;
+  wakes = λ t _ asleep. absurd (false≢true (sym (ap is_asleep (free t)) ∙ asleep));
+} where
+  queue : (t : ℕ) → IsQueued (replicate 64 no_barrier) threads t
+  queue t (OfBarrier i) = ap (λ (x : BarrierState). times t x.arrivals) (none_stands i) ∙ ap (λ w. cond (is_for (object_of_wait w) (OfBarrier i)) 1 0) (sym (free t))
+
+-- a task of an init line waits for nothing
+begun_waits : (s : Scenario) (n : ℕ) (inits : List Init) (t : ℕ) → (nth no_thread (places n (map (begun s) inits)) t).wait ≡ None
+begun_waits s n inits zero = refl
+begun_waits s n inits (suc i) = at n inits i where
+  at : (n : ℕ) (inits : List Init) (i : ℕ) → (get_or (places n (map (begun s) inits)) i no_thread).wait ≡ None
+  at zero inits i = refl
+  at (suc n) [] zero = refl
+  at (suc n) [] (suc i) = at n [] i
+  at (suc n) (init ∷ inits) zero = refl
+  at (suc n) (init ∷ inits) (suc i) = at n inits i
+
 pub sound_vacant : (s : Scenario) → IsWithinLimits s → IsSound (vacant s)
 sound_vacant s within =
     let size : length (vacant s).clusters ≡ length s.clusters = length-map s.clusters free_cluster in
     record {
       places = length-places 64 [];
+      halls = refl;
       few_clusters = rw size within.few_clusters;
       some_cluster = rw size within.some_cluster;
       few_cpus = rw (cpus-free s.clusters) within.few_cpus;
@@ -104,6 +126,7 @@ sound_vacant s within =
       threads = rw size (All-from_recursion (IsInBounds s (length s.clusters) 0) (places 64 []) (all_begun s (length s.clusters) 64 [] within within.some_cluster tt));
       clusters = all_free (vacant s) 0 s.clusters (no_place 64) within.few_cpus;
       named = named_vacant s;
+      tied = tied_free (places 64 []) (vacant s).clusters (λ t. ap (λ (x : Thread). x.wait) (no_place 64 t));
     }
 
 pub gentle_started : (s : Scenario) → IsWithinLimits s → IsGentle (vacant s) (started s)
@@ -114,10 +137,12 @@ gentle_started s within =
       scenario = refl;
       present = refl;
       places = length-places 64 (map (begun s) s.inits) ∙ sym (length-places 64 []);
+      halls = refl;
       threads = rw size (All-from_recursion (IsInBounds s (length s.clusters) 0) threads (all_begun s (length s.clusters) 64 s.inits within within.some_cluster within.homes));
       lines = keeps_same (vacant s).clusters;
       timers = all_untimed threads 0 s.clusters;
       named = named_begun s s.inits within.few_inits;
+      tied = tied_free threads (vacant s).clusters (begun_waits s 64 s.inits);
     }
 
 -- The opening state is sound.

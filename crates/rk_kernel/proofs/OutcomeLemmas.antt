@@ -1,8 +1,7 @@
 -- Outcomes that are fair: what each form of an outcome owes, so that its state can be settled and its refusals change the caller alone.
-use Rattle.std.proofs.Common.{◌≡◌, ℕ, List, [], ◌∷◌, ◌+◌, ◌≤◌, ◌&&◌, Bool, true, false, cond, eqb, Option, None, Some, length, arith, refl, sym, ◌∙◌, ap}
+use Rattle.std.proofs.Common.{◌≡◌, ◌==◌, ◌++◌, subst, ℕ, List, [], ◌∷◌, ◌+◌, ◌≤◌, ◌&&◌, Bool, true, false, cond, eqb, Option, None, Some, length, arith, refl, sym, ◌∙◌, ap}
 use Rattle.std.proofs.lemmas.Bool.{false≢true}
 use Rattle.std.proofs.lemmas.Bool.Decides.{nat_tests}
-use Rattle.rk_model.specs.declared.state.Armed.{Armed}
 use Rattle.rk_model.specs.declared.state.Armer.TheVariants.{Thread as OfThread}
 use Rattle.rk_model.specs.declared.state.Thread.{Thread}
 use Rattle.rk_model.specs.declared.state.Wait.{Wait}
@@ -14,17 +13,22 @@ use Rattle.rk_model.specs.Names.{taken, least_named}
 use Rattle.rk_model.specs.Directives.Objects.{names_in, put_names, create_at, unless, create, on_named, ident}
 use Rattle.rk_model.specs.Directives.Objects.{has_begun}
 use Rattle.rk_model.specs.Status.{status_code}
-use Rattle.rk_model.specs.State.{Plain, no_thread, thread_at, cluster_at, op_at}
-use Rattle.rk_model.specs.Scheduling.Timers.{times_armed, arm}
+use Rattle.rk_model.specs.Lists.{times}
+use Rattle.rk_model.specs.State.{Plain, ClusterState, no_thread, no_cluster, thread_at, cluster_at, op_at}
+use Rattle.rk_model.specs.Scheduling.Timers.{times_armed, with_timer, arm}
 use Rattle.rk_model.specs.Scheduling.Priorities.{is_started}
-use Rattle.rk_model.specs.Directives.Outcomes.{Outcome, Refused, Done, Waiting, Gone, on_found, changed, after_outcome, begin_wait, begin_limited}
+use Rattle.rk_model.specs.Directives.Outcomes.{Outcome, Refused, Done, Waiting, Gone, on_found, changed, after_outcome}
+use Rattle.rk_model.specs.Directives.Waits.{Object, object_of_wait, is_for, arrivals_in, enter, start_wait, begin_limited}
 use Rattle.rk_kernel.specs.Calls.{IsActing, IsCaller}
 use Rattle.rk_kernel.specs.SchedulingLaws.{is_refused}
-use Rattle.rk_kernel.specs.Sound.{IsInBounds, IsGentle, waits_in}
+use Rattle.rk_kernel.specs.Sound.{IsInBounds, IsGentle, waits_in, is_asleep}
 use Rattle.rk_kernel.proofs.ThreadBoundsLemmas.{bounds_at}
 use Rattle.rk_model.proofs.IndexLemmas.{nth-with_same}
-use Rattle.rk_kernel.proofs.TimerLemmas.{timers_of}
-use Rattle.rk_kernel.proofs.GentleChangeLemmas.{gentle_same, gentle_put, gentle_arm, Stays, gentle_go_on}
+use Rattle.rk_kernel.proofs.TimerLemmas.{timers_of, times-push}
+use Rattle.rk_kernel.proofs.TieLemmas.{IsThere}
+use Rattle.rk_kernel.proofs.GentleChangeLemmas.{gentle_same, gentle_start, gentle_arm, gentle_enter, Stays, gentle_go_on}
+use Rattle.rk_model.proofs.BooleanLemmas.{equal_test}
+use Rattle.std.proofs.lemmas.List.{get_or-set_same}
 
 -- the line of a body at which a thread is
 abbrev pub op_of : Plain → ℕ → Option Op
@@ -100,7 +104,8 @@ fair_after k t (Done status out next last) caller fair = gentle_go_on k next t o
 fair_after k t (Waiting next) caller fair = fair.does
 fair_after k t (Gone status next) caller fair = fair.does.1
 
-none_armed : (k : Plain) (t : ℕ) → IsActing k t → times_armed (OfThread t) (cluster_at k (thread_at k t).home).timers ≡ 0
+-- a thread that acts has no timer
+pub none_armed : (k : Plain) (t : ℕ) → IsActing k t → times_armed (OfThread t) (cluster_at k (thread_at k t).home).timers ≡ 0
 none_armed k t acts =
     let few = timers_of k (thread_at k t).home acts.sound (bounds_at k t acts.sound).home t in
     by (waits_in k.threads (thread_at k t).home t) (rw acts.waits_not (and_no (eqb (thread_at k t).home (thread_at k t).home))) few where
@@ -112,21 +117,43 @@ none_armed k t acts =
       by true e few = absurd (false≢true (sym e))
       by false e few = omega (arith, few)
 
--- a caller begins to wait, with a limit or without one
-pub gentle_limited : (k : Plain) (t : ℕ) (wait : Wait) (ticks : ℕ) → IsCaller k t → IsGentle k (begin_limited k t wait ticks)
-gentle_limited k t wait ticks caller =
+-- a thread that acts stands in no queue
+pub none_awaits : (k : Plain) (t : ℕ) → IsActing k t → (object : Object) → times t (arrivals_in k.barriers object) ≡ 0
+none_awaits k t acts object = acts.sound.tied.queued t refl object ∙ ap (λ w. cond (is_for (object_of_wait w) object) 1 0) acts.waits_not
+
+-- a caller begins to wait, with a limit or without one, which a sleep has; for an object that there is
+pub gentle_limited : (k : Plain) (t : ℕ) (wait : Wait) (ticks : ℕ) → IsCaller k t → IsThere k.barriers (object_of_wait (Some wait)) → (eqb ticks 0 ≡ true → is_asleep (Some wait) ≡ false) → IsGentle k (begin_limited k t wait ticks)
+gentle_limited k t wait ticks caller there sleeps =
     let acts = caller.acts in
     let b = bounds_at k t acts.sound in
     let thread : Thread = record (thread_at k t) { wait = Some wait } in
     let bounds : IsInBounds k.scenario (length k.clusters) k.present thread = record { home = b.home; line = b.line; working = b.working; calling = λ _. caller.line; apart = λ w. absurd (omega (arith, w, acts.works_not)); acts = b.acts; idle = λ idle. absurd (false≢true (sym idle ∙ ap is_started acts.started)); computed = b.computed } in
-    let begun = gentle_put k k t thread (gentle_same k acts.sound) refl (λ _. refl) (ap has_begun acts.started) (ap has_begun acts.started) bounds in
+    let begun = gentle_start k k t thread (gentle_same k acts.sound) refl refl (ap has_begun acts.started) (ap has_begun acts.started) bounds in
     let here = nth-with_same no_thread thread k.threads t acts.low (omega (arith, acts.high, acts.sound.places)) in
-    let waits : waits_in (begin_wait k t wait).threads (thread_at k t).home t ≡ true = rw here (home_is (thread_at k t).home) in
-    by (eqb ticks 0) begun (gentle_arm k (begin_wait k t wait) (thread_at k t).home t (k.present + ticks) begun waits (none_armed k t acts))
+    let waits : waits_in (start_wait k t wait).threads (thread_at k t).home t ≡ true = rw here (home_is (thread_at k t).home) in
+    let armed = gentle_arm k (start_wait k t wait) (thread_at k t).home t (k.present + ticks) begun waits (none_armed k t acts) in
+    let is : (thread_at (start_wait k t wait) t).wait ≡ Some wait = ap (λ (x : Thread). x.wait) here in
+    let none = none_awaits k t acts in
+    by (eqb ticks 0) refl
+    (λ zero. gentle_enter k (start_wait k t wait) t wait begun is there none (λ asleep. absurd (false≢true (sym (sleeps zero) ∙ ap is_asleep (sym is) ∙ asleep))))
+    (λ some. gentle_enter k (arm_at (start_wait k t wait)) t wait armed is there none (λ _. has_timer here))
   where
-    by : (b : Bool) → IsGentle k (begin_wait k t wait) → IsGentle k (arm (begin_wait k t wait) (thread_at k t).home (let x : Armed = record { who = OfThread t; due = k.present + ticks } in x)) → IsGentle k (cond b (begin_wait k t wait) (arm (begin_wait k t wait) (thread_at k t).home (let x : Armed = record { who = OfThread t; due = k.present + ticks } in x)))
-    by true begun armed = begun
-    by false begun armed = armed
+    arm_at : Plain → Plain
+    arm_at m = arm m (thread_at k t).home (record { who = OfThread t; due = k.present + ticks })
+
+    has_timer : thread_at (start_wait k t wait) t ≡ (let thread : Thread = record (thread_at k t) { wait = Some wait } in thread) → 1 ≤ times_armed (OfThread t) (cluster_at (arm_at (start_wait k t wait)) (thread_at (start_wait k t wait) t).home).timers
+    has_timer here =
+        let h = (thread_at k t).home in
+        let timers = (cluster_at k h).timers in
+        let home : (thread_at (start_wait k t wait) t).home ≡ h = ap (λ (x : Thread). x.home) here in
+        let at : (cluster_at (arm_at (start_wait k t wait)) h).timers ≡ timers ++ (record { who = OfThread t; due = k.present + ticks }) ∷ [] = ap (λ (c : ClusterState). c.timers) (get_or-set_same k.clusters h (with_timer (cluster_at k h) (record { who = OfThread t; due = k.present + ticks })) no_cluster (bounds_at k t caller.acts.sound).home) in
+        let one : (t == t) ≡ true = equal_test t t refl in
+        let more : times_armed (OfThread t) (cluster_at (arm_at (start_wait k t wait)) h).timers ≡ times_armed (OfThread t) timers + 1 = ap (times_armed (OfThread t)) at ∙ times-push t t (k.present + ticks) timers ∙ (rw one refl) in
+        subst (λ d. 1 ≤ times_armed (OfThread t) (cluster_at (arm_at (start_wait k t wait)) d).timers) (sym home) (omega (arith, more))
+
+    by : (b : Bool) → eqb ticks 0 ≡ b → (eqb ticks 0 ≡ true → IsGentle k (enter (start_wait k t wait) t (Some wait))) → (eqb ticks 0 ≡ false → IsGentle k (enter (arm_at (start_wait k t wait)) t (Some wait))) → IsGentle k (enter (cond b (start_wait k t wait) (arm_at (start_wait k t wait))) t (Some wait))
+    by true e begun armed = begun e
+    by false e begun armed = armed e
 
     home_is : (h : ℕ) → ((eqb h h) && true) ≡ true
     home_is h = grind (arith, nat_tests)

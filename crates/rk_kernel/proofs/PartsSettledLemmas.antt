@@ -11,13 +11,14 @@ use Rattle.rk_parts.specs.declared.processors.Calling.{Calling}
 use Rattle.rk_parts.specs.Joined.{present_of, plain_of}
 use Rattle.rk_parts.specs.Lent.{number_in, AreLaid, layouts, Stored, stored_in, stored, Frame, frame}
 use Rattle.rk_parts.specs.Noted.{settled_part, bare}
-use Rattle.rk_parts.specs.Whole.{AreWhole, ticks_of, ticks_in}
+use Rattle.rk_parts.specs.Whole.{AreWhole, ticks_of}
+use Rattle.rk_parts.specs.Groups.{group_frames}
 use Rattle.rk_model.specs.Scheduling.Running.{cpu_count, caller}
 use Rattle.rk_model.specs.Text.Scenarios.{cpus_in}
 use Rattle.rk_parts.proofs.LentSeatLemmas.{cpu_count_joined}
 use Rattle.rk_parts.proofs.PutLemmas.{length_clusters}
 use Rattle.rk_parts.proofs.SettledPartLemmas.{same_stored}
-use Rattle.rk_parts.proofs.WholeLemmas.{Keeps, lent_whole, whole_settled, plain_settled, all_noted_settled}
+use Rattle.rk_parts.proofs.WholeLemmas.{Keeps, lent_whole, ticks_framed, numbers_framed, whole_settled, plain_settled, all_noted_settled}
 use Rattle.rk_kernel.specs.Does.{Untouched, untouched}
 use Rattle.rk_kernel.specs.Ready.{IsReady}
 use Rattle.rk_kernel.specs.Sound.{IsSound, IsGentle}
@@ -54,13 +55,15 @@ whole_kept old all whole present kept rest =
     let lie : layouts all.clusters ≡ layouts old.clusters = ap (λ (f : Frame). f.layouts) kept in
     let store : stored all.clusters ≡ stored old.clusters = ap (λ (f : Frame). f.stored) kept in
     let same : all.scenario ≡ old.scenario = ap (λ (u : Untouched). u.scenario) rest in
+    let framed : group_frames all.groups ≡ group_frames old.groups = ap (λ (u : Untouched). u.groups) rest in
     record {
       four = sym (length-map all.clusters stored_in) ∙ ap (λ (ss : List Stored). length ss) store ∙ length-map old.clusters stored_in ∙ whole.four;
       numbers = λ c low. ap (λ (x : Stored). x.lined.number) (same_stored old.clusters all.clusters c store) ∙ whole.numbers c low;
       laid = subst (λ (s : Scenario). AreLaid s.clusters (layouts all.clusters)) (sym same) (subst (AreLaid old.scenario.clusters) (sym lie) whole.laid);
+      groups = numbers_framed old.groups all.groups framed ∙ whole.groups;
       time = record {
         clusters = ap (λ (ss : List Stored). ticks_of ss) store ∙ whole.time.clusters ∙ ap (replicate 4) (sym present);
-        groups = ap (λ (u : Untouched). ticks_in u.groups) rest ∙ whole.time.groups ∙ ap (replicate 4) (sym present);
+        groups = ticks_framed old.groups all.groups framed ∙ whole.time.groups ∙ ap (replicate 4) (sym present);
         table = ap (λ (u : Untouched). u.time) rest ∙ whole.time.table ∙ sym present;
       };
     }

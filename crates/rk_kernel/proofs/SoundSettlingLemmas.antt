@@ -1,8 +1,12 @@
 -- Settling after a gentle change keeps a state sound.
-use Rattle.std.proofs.Common.{◌≡◌, ℕ, ◌+◌, List, [], ◌∷◌, length, length-append, arith, refl, ap, sym, subst, ◌∙◌}
+use Rattle.std.proofs.Common.{◌≡◌, ℕ, zero, suc, ◌+◌, ◌≤◌, get_or, List, [], ◌∷◌, length, length-append, arith, refl, ap, sym, subst, ◌∙◌}
 use Rattle.rk_model.specs.declared.settling.Shift.{Shift}
-use Rattle.rk_model.specs.Lists.{times}
-use Rattle.rk_model.specs.State.{Plain, ClusterState}
+use Rattle.rk_model.specs.declared.state.Armed.{Armed}
+use Rattle.rk_model.specs.declared.state.Armer.TheVariants.{Thread as OfThread}
+use Rattle.rk_model.specs.declared.state.Thread.{Thread}
+use Rattle.rk_model.specs.Lists.{nth, times}
+use Rattle.rk_model.specs.State.{Plain, BarrierState, ClusterState, no_thread, no_cluster}
+use Rattle.rk_model.specs.Scheduling.Timers.{times_armed}
 use Rattle.rk_model.specs.Scheduling.Priorities.{is_eligible, urgency, standings}
 use Rattle.rk_model.specs.Scheduling.ReadyQueues.{most_urgent}
 use Rattle.rk_model.specs.Scheduling.Settling.{shifts, shifted, settle}
@@ -10,7 +14,7 @@ use Rattle.rk_model.specs.Scheduling.Running.{all_cpus, cpu_count}
 use Rattle.rk_model.proofs.AssignmentLemmas.{assigned_has, length-assigned}
 use Rattle.rk_parts.specs.Settled.{settled_cluster, settled_from}
 use Rattle.rk_parts.proofs.SettlingLemmas.{settle_each}
-use Rattle.rk_kernel.specs.Sound.{stands, own, AllSound, IsSound, KeepsLines, AllTimed, IsGentle}
+use Rattle.rk_kernel.specs.Sound.{stands, own, AllSound, IsSound, KeepsLines, AllTimed, IsGentle, AreTied, but_none}
 use Rattle.rk_kernel.proofs.ReadyQueueLemmas.{line_moved}
 
 pub length-kept : (olds news : List ClusterState) → KeepsLines olds news → length news ≡ length olds
@@ -75,12 +79,25 @@ all_sound k next last clusters c (a ∷ olds) (b ∷ news) size sound keeps time
       all_sound k next last clusters (c + 1) olds news size sound.1 keeps.2 timed.1,
     )
 
+-- settling leaves the timers alone
+pub timers-settled_from : (shift : ℕ → ℕ → Shift) (key : ℕ → ℕ → ℕ) (n c : ℕ) (clusters : List ClusterState) (i : ℕ) → (get_or (settled_from shift key n c clusters) i no_cluster).timers ≡ (get_or clusters i no_cluster).timers
+timers-settled_from shift key n c [] i = refl
+timers-settled_from shift key n c (cluster ∷ clusters) zero = refl
+timers-settled_from shift key n c (cluster ∷ clusters) (suc i) = timers-settled_from shift key n (c + 1) clusters i
+
+tied_settled : (shift : ℕ → ℕ → Shift) (key : ℕ → ℕ → ℕ) (n : ℕ) (barriers : List BarrierState) (threads : List Thread) (clusters : List ClusterState) → AreTied barriers threads clusters but_none → AreTied barriers threads (settled_from shift key n 0 clusters) but_none
+tied_settled shift key n barriers threads clusters tied = record {
+  queued = tied.queued;
+  wakes = λ t apart asleep. subst (λ (timers : List Armed). 1 ≤ times_armed (OfThread t) timers) (sym (timers-settled_from shift key n 0 clusters (nth no_thread threads t).home)) (tied.wakes t apart asleep);
+}
+
 -- A gentle change of a sound state, settled, is sound.
 pub sound_settled : (k next : Plain) (last : List ℕ) → IsSound k → IsGentle k next → IsSound (settle k next last)
 sound_settled k next last sound gentle =
     let same_length : length (settle k next last).clusters ≡ length k.clusters = length-settled k next last ∙ length-kept k.clusters next.clusters gentle.lines in
     record {
       places = gentle.places ∙ sound.places;
+      halls = gentle.halls ∙ sound.halls;
       few_clusters = rw same_length sound.few_clusters;
       some_cluster = rw same_length sound.some_cluster;
       few_cpus = rw (cpus-settled, cpus-kept k.clusters next.clusters gentle.lines) sound.few_cpus;
@@ -90,4 +107,5 @@ sound_settled k next last sound gentle =
       threads = rw (same_length, gentle.present, gentle.scenario) gentle.threads;
       clusters = subst (λ (x : Plain). AllSound x 0 x.clusters) (sym (settled_each k next last)) (all_sound k next last (each_settled k next last) 0 k.clusters next.clusters gentle.places sound.clusters gentle.lines gentle.timers);
       named = gentle.named;
+      tied = subst (λ (x : Plain). AreTied next.barriers next.threads x.clusters but_none) (sym (settled_each k next last)) (tied_settled (shifts (standings k) (standings next) last) (urgency next) (length next.threads) next.barriers next.threads next.clusters gentle.tied);
     }

@@ -1,5 +1,5 @@
 -- The bounds of threads.
-use Rattle.std.proofs.Common.{◌≡◌, ℕ, zero, suc, ◌<◌, ◌≤◌, List, [], ◌∷◌, true, false, Option, None, Some, length, IsSome, ⊎_elim, arith, refl, ap}
+use Rattle.std.proofs.Common.{◌≡◌, ℕ, zero, suc, ◌<◌, ◌≤◌, List, [], ◌∷◌, Bool, true, false, Option, None, Some, length, IsSome, ⊎_elim, arith, refl, ap}
 use Rattle.std.specs.List.{slice_get, AllByRecursion}
 use Rattle.std.proofs.lemmas.List.{get_or_past}
 use Rattle.std.proofs.lemmas.Bool.{cases_lt, false≢true}
@@ -16,7 +16,7 @@ use Rattle.rk_model.specs.declared.state.Thread.{Thread}
 use Rattle.rk_model.specs.State.{Plain, no_thread, thread_at, op_at, op_in}
 use Rattle.rk_model.specs.Directives.Outcomes.{landing, arrived, work_at}
 use Rattle.rk_model.proofs.BodyLemmas.{lines_in, goes_in, few_lines}
-use Rattle.rk_kernel.specs.Sound.{IsSound, IsInBounds, IsGentle, has_action, is_in_call}
+use Rattle.rk_kernel.specs.Sound.{IsSound, IsInBounds, IsGentleBut, has_action, is_in_call}
 
 first_acts : (o : Option Body) → has_action (op_in o 0) ≡ true
 first_acts None = refl
@@ -38,9 +38,9 @@ bounds_at k (suc i) sound =
     ⊎_elim (λ h. sound.threads i no_thread h) (λ h. rw (get_or_past k.threads i no_thread h) (none_bounds k.scenario (length k.clusters) k.present sound.some_cluster)) (cases_lt i (length k.threads))
 
 -- the same after a gentle change
-pub bounds_in : (k m : Plain) (t : ℕ) → IsSound k → IsGentle k m → IsInBounds k.scenario (length k.clusters) k.present (thread_at m t)
-bounds_in k m zero sound gentle = none_bounds k.scenario (length k.clusters) k.present sound.some_cluster
-bounds_in k m (suc i) sound gentle =
+pub bounds_in : (k m : Plain) (but : ℕ → Bool) (t : ℕ) → IsSound k → IsGentleBut k m but → IsInBounds k.scenario (length k.clusters) k.present (thread_at m t)
+bounds_in k m but zero sound gentle = none_bounds k.scenario (length k.clusters) k.present sound.some_cluster
+bounds_in k m but (suc i) sound gentle =
     ⊎_elim (λ h. gentle.threads i no_thread h) (λ h. rw (get_or_past m.threads i no_thread h) (none_bounds k.scenario (length k.clusters) k.present sound.some_cluster)) (cases_lt i (length m.threads))
 
 op_within : (ops : List Op) (i : ℕ) → IsSome (slice_get ops i) → i < length ops

@@ -1,5 +1,5 @@
 -- A tick that passes keeps a state sound, before any timer fires.
-use Rattle.std.proofs.Common.{◌≡◌, ℕ, zero, suc, ◌+◌, ◌-◌, ◌<◌, ◌≤◌, List, [], ◌∷◌, Bool, true, false, cond, eqb, ◌||◌, ◌&&◌, not, nat_lt, Option, None, Some, length, get_or, arith, refl, ap, sym, ◌∙◌}
+use Rattle.std.proofs.Common.{◌≡◌, ℕ, zero, suc, ◌+◌, ◌-◌, ◌<◌, ◌≤◌, List, [], ◌∷◌, Bool, true, false, cond, eqb, ◌||◌, ◌&&◌, not, nat_lt, Option, None, Some, length, get_or, arith, refl, ap, sym, ◌∙◌, subst}
 use Rattle.std.specs.List.{AllByRecursion, range_with_len}
 use Rattle.std.proofs.lemmas.Bool.Decides.{nat_tests}
 use Rattle.std.proofs.lemmas.List.Elements.{filter_agree, All-from_recursion, recursion_from_All}
@@ -7,20 +7,20 @@ use Rattle.rk_model.specs.declared.scenario.Scenario.{Scenario}
 use Rattle.rk_model.specs.declared.entry.What.TheVariants.{Tick, End}
 use Rattle.rk_model.specs.declared.state.Thread.{Thread}
 use Rattle.rk_model.specs.declared.state.Wait.{Wait}
-use Rattle.rk_model.specs.declared.state.Wait.TheVariants.{ForTime}
+use Rattle.rk_model.specs.declared.state.Wait.TheVariants.{ForTime, ForEvents, AtBarrier}
 use Rattle.rk_model.specs.Lists.{times}
-use Rattle.rk_model.specs.State.{Plain, ClusterState, no_thread, thread_at}
+use Rattle.rk_model.specs.State.{Plain, ClusterState, no_thread, thread_at, cluster_at}
 use Rattle.rk_model.specs.Scheduling.Priorities.{is_eligible, is_started, is_no_wait, spins_in}
-use Rattle.rk_model.specs.declared.ids.Class.{Class}
-use Rattle.rk_model.specs.declared.ids.Class.TheVariants.{Task}
-use Rattle.rk_model.specs.Directives.Objects.{has_begun, begun_in}
+use Rattle.rk_model.specs.Directives.Objects.{has_begun}
+use Rattle.rk_model.specs.Directives.Waits.{object_of_wait, is_for}
 use Rattle.rk_model.specs.Scheduling.Running.{least, runs_somewhere}
 use Rattle.rk_model.specs.Scheduling.Ticks.{charged, ticked, charge_from, pass, tick}
 use Rattle.rk_model.specs.Steps.{clock_of, clock_entry}
 use Rattle.rk_model.specs.Limits.{AreRunnable}
-use Rattle.rk_kernel.specs.Sound.{IsSound, IsInBounds, AllSound, own, stands, waits_in, is_waiting}
+use Rattle.rk_kernel.specs.Sound.{IsSound, IsInBounds, AllSound, own, stands, waits_in, is_waiting, is_asleep}
 use Rattle.rk_model.specs.declared.state.Armer.TheVariants.{Thread as OfThread}
 use Rattle.rk_model.specs.Scheduling.Timers.{times_armed}
+use Rattle.rk_kernel.proofs.NamesAgreeLemmas.{named_alike}
 use Rattle.rk_kernel.proofs.ThreadBoundsLemmas.{arrived_bounds}
 
 -- what holds at each of two outcomes of a test holds of the choice
@@ -51,6 +51,8 @@ length-charge_from k t (x ∷ xs) = omega (arith, length-charge_from k (t + 1) x
 pub spins_alike : (k n : Plain) (wait : Option Wait) → spins_in n wait ≡ spins_in k wait
 spins_alike k n None = refl
 spins_alike k n (Some ForTime) = refl
+spins_alike k n (Some (ForEvents set all)) = refl
+spins_alike k n (Some (AtBarrier i)) = refl
 
 eligible-pass : (k : Plain) (t : ℕ) → is_eligible (pass k) t ≡ is_eligible k t
 unfolding is_eligible
@@ -109,9 +111,8 @@ charge_bounds k n t (x ∷ xs) runs all =
     let P : Thread → Type 0 = IsInBounds k.scenario n (k.present + 1) in
     (by_test P (runs_somewhere k t) _ _ (λ _. charged_bounds k.scenario n k.present x runs all.0) (λ _. later_bounds k.scenario n k.present x all.0), charge_bounds k n (t + 1) xs runs all.1)
 
-begun-pass : (k : Plain) (class : Class) (t : ℕ) → begun_in (pass k).threads class t ≡ begun_in k.threads class t
-begun-pass k Task t = passed_steady (λ (x : Thread). has_begun x.life) k t (λ _ _ _ _. refl)
-begun-pass k class t = refl
+begun-pass : (k : Plain) (t : ℕ) → has_begun (thread_at (pass k) t).life ≡ has_begun (thread_at k t).life
+begun-pass k t = passed_steady (λ (x : Thread). has_begun x.life) k t (λ _ _ _ _. refl)
 
 -- where there is no thread, there is none after a tick
 charge_none : (k : Plain) (t : ℕ) (ts : List Thread) (i : ℕ) → get_or ts i no_thread ≡ no_thread → get_or (charge_from k t ts) i no_thread ≡ no_thread
@@ -127,10 +128,17 @@ passed_none : (k : Plain) (t : ℕ) → thread_at k t ≡ no_thread → thread_a
 passed_none k zero none = refl
 passed_none k (suc i) none = charge_none k 1 k.threads i none
 
+waits-pass : (k : Plain) (t : ℕ) → (thread_at (pass k) t).wait ≡ (thread_at k t).wait
+waits-pass k t = passed_steady (λ (x : Thread). x.wait) k t (λ _ _ _ _. refl)
+
+homes-pass : (k : Plain) (t : ℕ) → (thread_at (pass k) t).home ≡ (thread_at k t).home
+homes-pass k t = passed_steady (λ (x : Thread). x.home) k t (λ _ _ _ _. refl)
+
 -- A tick below the horizon keeps a state sound.
 pub sound_pass : (k : Plain) → IsSound k → k.present < k.scenario.horizon → IsSound (pass k)
 sound_pass k sound below = record {
   places = length-charge_from k 1 k.threads ∙ sound.places;
+  halls = sound.halls;
   few_clusters = sound.few_clusters;
   some_cluster = sound.some_cluster;
   few_cpus = sound.few_cpus;
@@ -139,10 +147,10 @@ sound_pass k sound below = record {
   bodies = sound.bodies;
   threads = All-from_recursion (IsInBounds k.scenario (length k.clusters) (k.present + 1)) _ (charge_bounds k (length k.clusters) 1 k.threads sound.bodies (recursion_from_All (IsInBounds k.scenario (length k.clusters) k.present) k.threads sound.threads));
   clusters = sound_clusters k 0 k.clusters sound.clusters;
-  named = record {
-    split = sound.named.split;
-    live = λ class t. sound.named.live class t ∙ ap (λ b. cond b 1 0) (sym (begun-pass k class t));
-    blank = λ t none. passed_none k t (sound.named.blank t (sym (begun-pass k Task t) ∙ none));
+  named = named_alike k.table k.threads (pass k).threads k.barriers k.barriers (begun-pass k) (λ u. refl) (λ t none. passed_none k t (sound.named.blank t (sym (begun-pass k t) ∙ none))) sound.named.bare sound.named;
+  tied = record {
+    queued = λ t apart object. sound.tied.queued t apart object ∙ ap (λ w. cond (is_for (object_of_wait w) object) 1 0) (sym (waits-pass k t));
+    wakes = λ t apart asleep. subst (λ d. 1 ≤ times_armed (OfThread t) (cluster_at k d).timers) (sym (homes-pass k t)) (sound.tied.wakes t apart (sym (ap is_asleep (waits-pass k t)) ∙ asleep));
   };
 }
 

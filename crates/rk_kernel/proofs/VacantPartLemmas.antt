@@ -1,11 +1,11 @@
 -- The parts of a state in which there is no task yet.
-use Rattle.std.proofs.Common.{◌≡◌, ℕ, zero, suc, ◌+◌, ◌<◌, ◌≤◌, List, [], ◌∷◌, true, false, None, length, map, take, replicate, get_or, arith, refl, sym, ap, ◌∙◌, subst, ⊎_elim}
+use Rattle.std.proofs.Common.{◌≡◌, ℕ, zero, suc, ◌+◌, ◌<◌, ◌≤◌, List, [], ◌∷◌, Bool, true, false, cond, ◌==◌, None, length, map, take, replicate, get_or, arith, refl, sym, ap, ◌∙◌, subst, ⊎_elim}
 use Rattle.std.proofs.lemmas.Bool.{false≢true, cases_lt}
 use Rattle.std.proofs.lemmas.List.{length-replicate, length-map, get_or-map, get_or_past, ext_get_or}
 use Rattle.rk_model.specs.declared.scenario.Scenario.{Scenario}
 use Rattle.rk_model.specs.declared.settling.Standing.{Standing}
 use Rattle.rk_model.specs.declared.state.Thread.{Thread}
-use Rattle.rk_model.specs.State.{no_thread}
+use Rattle.rk_model.specs.State.{BarrierState, no_thread, no_barrier}
 use Rattle.rk_model.specs.Directives.Objects.{has_begun}
 use Rattle.rk_model.specs.Scheduling.Priorities.{no_standing}
 use Rattle.rk_model.specs.Histories.{places, free_cluster, vacant}
@@ -13,11 +13,13 @@ use Rattle.rk_model.specs.Text.Scenarios.{cpus_in}
 use Rattle.rk_model.specs.Names.{no_objects}
 use Rattle.rk_parts.specs.declared.parts.ClusterPart.{ClusterPart}
 use Rattle.rk_parts.specs.declared.parts.AllParts.{AllParts}
+use Rattle.rk_parts.specs.declared.parts.GroupPart.{GroupPart}
 use Rattle.rk_parts.specs.Threads.{own_standing}
-use Rattle.rk_parts.specs.Joined.{listed, cluster_of, placed_in, lives_in, held, numbered, present_of, threads_of, clusters_of, clusters_by, plain_of}
+use Rattle.rk_signal.specs.Barriers.{none_live, no_stored, group_of, stored_at}
+use Rattle.rk_parts.specs.Joined.{listed, cluster_of, placed_in, lives_in, held, numbered, present_of, threads_of, barrier_of, barrier_held, barriers_of, clusters_of, clusters_by, plain_of}
 use Rattle.rk_parts.specs.Lent.{AreLaid, layouts, stored}
 use Rattle.rk_parts.specs.Noted.{no_part, part_at, standings_in, key_of, IsKeyed, AreNoted, bare}
-use Rattle.rk_parts.specs.Whole.{ticks_of, ticks_in, AreWhole}
+use Rattle.rk_parts.specs.Whole.{ticks_of, ticks_in, numbers_in, AreWhole}
 use Rattle.rk_parts.proofs.ListedLemmas.{length-listed, get_or-listed}
 use Rattle.rk_parts.proofs.HeldLemmas.{held_nowhere, lives_nowhere, no_part_lives}
 use Rattle.rk_parts.proofs.LayoutLemmas.{Lie, laid}
@@ -25,7 +27,7 @@ use Rattle.rk_parts.proofs.LentTimerLemmas.{numbered_found}
 use Rattle.rk_parts.proofs.MarkLemmas.{nth_replicate}
 use Rattle.rk_parts.proofs.SettledPartLemmas.{bare_at, present_bare}
 use Rattle.rk_parts.proofs.WholeLemmas.{lent_all, ticks_bare}
-use Rattle.rk_kernel.specs.Made.{vacant_part, vacant_in, vacant_parts}
+use Rattle.rk_kernel.specs.Made.{vacant_part, vacant_in, vacant_parts, vacant_groups}
 
 -- ---- the processors in front of a cluster
 
@@ -144,13 +146,33 @@ noted_vacant count counts parts vacant = record {
   keyed = λ at known. by_part counts parts (λ (p : ClusterPart). IsKeyed (key_of p.threads.stood) p.lined.line) at vacant tt tt;
 }
 
+-- ---- the groups
+
+-- no barrier is held by vacant groups
+held_none : (i : ℕ) → barrier_held vacant_groups i ≡ no_barrier
+held_none i = by (0 == group_of i) (placed 0) (by (1 == group_of i) (placed 1) (by (2 == group_of i) (placed 2) (by (3 == group_of i) (placed 3) refl))) where
+  placed : (number : ℕ) → barrier_of (stored_at (none_live number) i) ≡ no_barrier
+  placed number = ap barrier_of (nth_replicate no_stored 64 i)
+
+  by : (b : Bool) {x rest : BarrierState} → x ≡ no_barrier → rest ≡ no_barrier → cond b x rest ≡ no_barrier
+  by true here more = here
+  by false here more = more
+
+listed_no : (f : ℕ → BarrierState) (a n : ℕ) → ((i : ℕ) → f i ≡ no_barrier) → listed f a n ≡ replicate n no_barrier
+listed_no f a zero none = refl
+listed_no f a (suc n) none = ap (λ x. x ∷ listed f (a + 1) n) (none a) ∙ ap (λ xs. no_barrier ∷ xs) (listed_no f (a + 1) n none)
+
+barriers_vacant : (groups : List GroupPart) → groups ≡ vacant_groups → barriers_of groups ≡ replicate 64 no_barrier
+unfolding barriers_of
+barriers_vacant groups made = ap (λ (gs : List GroupPart). listed (barrier_held gs) 1 64) made ∙ listed_no (barrier_held vacant_groups) 1 64 held_none
+
 -- ---- the parts that were made
 
 -- All parts as they are made, where no task was started yet.
 pub record AreMade (s : Scenario) (all : AllParts) : Type 0 where
   pub scenario : all.scenario ≡ s
   pub clusters : map bare all.clusters ≡ vacant_parts s.clusters
-  pub groups : ticks_in all.groups ≡ replicate 4 0
+  pub groups : all.groups ≡ vacant_groups
   pub time : all.table.present ≡ 0
   pub names : all.table.names ≡ no_objects
 
@@ -164,7 +186,8 @@ plain_made s all made few =
     let clusters : clusters_of all.scenario.clusters all.clusters ≡ map free_cluster s.clusters = ap (λ (t : Scenario). clusters_of t.clusters all.clusters) made.scenario ∙ clusters_vacant s.clusters all.clusters vacant few in
     let present = present_made s all made in
     let threads = threads_vacant s.clusters all.clusters vacant in
-    λ i. record { scenario = made.scenario i; present = present i; clusters = clusters i; threads = threads i; table = made.names i }
+    let barriers = barriers_vacant all.groups made.groups in
+    λ i. record { scenario = made.scenario i; present = present i; clusters = clusters i; threads = threads i; barriers = barriers i; table = made.names i }
 
 -- are whole,
 pub whole_made : (s : Scenario) (all : AllParts) → AreMade s all → AreWhole all
@@ -176,9 +199,10 @@ whole_made s all made =
       four = vacant.four;
       numbers = λ c low. number_vacant s.clusters all.clusters c vacant low;
       laid = subst (λ (t : Scenario). AreLaid t.clusters (layouts all.clusters)) (sym made.scenario) (laid s.clusters all.clusters (lie_vacant s.clusters all.clusters vacant));
+      groups = ap (λ (gs : List GroupPart). numbers_in gs) made.groups;
       time = record {
         clusters = ticks ∙ ap (replicate 4) (sym present);
-        groups = made.groups ∙ ap (replicate 4) (sym present);
+        groups = ap (λ (gs : List GroupPart). ticks_in gs) made.groups ∙ ap (replicate 4) (sym present);
         table = made.time ∙ sym present;
       };
     }

@@ -1,5 +1,9 @@
 -- The threads that act.
-use Rattle.std.specs.Prelude.{ℕ, ◌≡◌, ◌<◌, ◌≤◌, None}
+use Rattle.std.specs.Prelude.{ℕ, ◌≡◌, ◌<◌, ◌≤◌, Option, None}
+use Rattle.rk_model.specs.declared.ids.Class.TheVariants.{Barrier}
+use Rattle.rk_model.specs.declared.scenario.Op.{Op}
+use Rattle.rk_model.specs.declared.scenario.Op.TheVariants.{BarrierWait, BarrierRelease, BarrierDelete}
+use Rattle.rk_model.specs.Directives.Objects.{object_named}
 use Rattle.rk_model.specs.declared.limits.TheConstants.{MOST_OBJECTS, MOST_LINES}
 use Rattle.rk_model.specs.declared.state.Life.TheVariants.{Started}
 use Rattle.rk_model.specs.State.{Plain, thread_at}
@@ -19,3 +23,10 @@ pub record IsCaller (k : Plain) (t : ℕ) : Type 0 where
   pub acts : IsActing k t
   pub line : (thread_at k t).line ≤ MOST_LINES
   pub returns_not : (thread_at k t).finished ≡ None
+
+-- the barrier whose queue a line of a caller may change, if there is one
+abbrev pub queue_named : Plain → ℕ → Op → Option ℕ
+queue_named k t (BarrierWait id ticks) = object_named k t Barrier id
+queue_named k t (BarrierRelease id var) = object_named k t Barrier id
+queue_named k t (BarrierDelete id) = object_named k t Barrier id
+queue_named k t op = None

@@ -1,21 +1,26 @@
 -- What the rows of the kernel do to the parts that are lent, against what they come to.
-use Rattle.std.specs.Prelude.{ℕ, ◌≡◌, List, [], ◌∷◌, Bool, true, false, Option, Result, Ok, Err}
+use Rattle.std.specs.Prelude.{ℕ, ◌≡◌, List, [], ◌∷◌, Bool, true, false, Option, Result, Ok, Err, if◌then◌else◌}
+use Rattle.std.specs.List.{AllByRecursion}
 use Rattle.rk_model.specs.declared.entry.Answer.{Answer}
 use Rattle.rk_model.specs.declared.entry.Answer.TheVariants as told
 use Rattle.rk_model.specs.declared.ids.Class.{Class}
 use Rattle.rk_model.specs.declared.scenario.Scenario.{Scenario}
 use Rattle.rk_model.specs.declared.state.Armer.{Armer}
-use Rattle.rk_model.specs.declared.state.Armer.TheVariants.{Thread as OfThread}
+use Rattle.rk_model.specs.declared.state.Armer.TheVariants.{Thread as OfThread, Period as OfPeriod}
 use Rattle.rk_model.specs.declared.status.Status.{Status}
 use Rattle.rk_model.specs.Ids.{id_of}
-use Rattle.rk_model.specs.Names.{Table}
+use Rattle.rk_model.specs.Names.{Table, no_objects}
 use Rattle.rk_model.specs.State.{Plain}
+use Rattle.rk_model.specs.declared.waiting.Wake.{Wake}
+use Rattle.rk_model.specs.Lists.{times}
 use Rattle.rk_model.specs.Directives.Objects.{has_begun, create}
+use Rattle.rk_model.specs.Directives.Waits.{OfBarrier, object_of_wait, is_for, stop_wait}
 use Rattle.rk_model.specs.Directives.Outcomes.{Outcome, Refused, done, answer_of, changed}
 use Rattle.rk_parts.specs.declared.parts.ClusterPart.{ClusterPart}
 use Rattle.rk_parts.specs.declared.parts.GroupPart.{GroupPart}
 use Rattle.rk_parts.specs.declared.parts.AllParts.{AllParts}
-use Rattle.rk_parts.specs.Joined.{joined, plain_of, thread_lent}
+use Rattle.rk_parts.specs.Joined.{no_scenario, joined, plain_of, thread_lent, barrier_lent}
+use Rattle.rk_parts.specs.Groups.{GroupFrame, group_frames}
 use Rattle.rk_parts.specs.Lent.{AreLaid, layouts, stored, frame}
 
 -- The parts stand for the state that this makes of the one that they stood for, whatever is not lent; and they keep their frame.
@@ -28,6 +33,19 @@ pub record Does (s : Scenario) (row : Plain → Outcome) (answer : Answer) (befo
   pub told : (table : Table) (groups : List GroupPart) → answer ≡ answer_of (row (joined s table before groups))
   pub state : (table : Table) (groups : List GroupPart) → AreLaid s.clusters (layouts before) → joined s table after groups ≡ changed (joined s table before groups) (row (joined s table before groups))
   pub kept : frame after ≡ frame before
+
+-- The same of parts of clusters and of groups: they stand for the state that this makes of the one that they stood for, and keep their frames.
+pub record BecomesBoth (s : Scenario) (change : Plain → Plain) (before : List ClusterPart) (groups : List GroupPart) (after : List ClusterPart) (groups' : List GroupPart) : Type 0 where
+  pub state : (table : Table) → AreLaid s.clusters (layouts before) → joined s table after groups' ≡ change (joined s table before groups)
+  pub kept : frame after ≡ frame before
+  pub framed : group_frames groups' ≡ group_frames groups
+
+-- A narrow row that is lent parts of groups too.
+pub record DoesBoth (s : Scenario) (row : Plain → Outcome) (answer : Answer) (before : List ClusterPart) (groups : List GroupPart) (after : List ClusterPart) (groups' : List GroupPart) : Type 0 where
+  pub told : (table : Table) → answer ≡ answer_of (row (joined s table before groups))
+  pub state : (table : Table) → AreLaid s.clusters (layouts before) → joined s table after groups' ≡ changed (joined s table before groups) (row (joined s table before groups))
+  pub kept : frame after ≡ frame before
+  pub framed : group_frames groups' ≡ group_frames groups
 
 -- All cluster parts and the table stand for the state that this makes of the one that they stood for; the parts are still parts of it, and store the same.
 pub record BecomesWide (s : Scenario) (change : Plain → Plain) (before : List ClusterPart) (table : Table) (after : List ClusterPart) (table' : Table) : Type 0 where
@@ -42,14 +60,35 @@ pub record DoesWide (s : Scenario) (row : Plain → Outcome) (answer : Answer) (
   pub laid : AreLaid s.clusters (layouts before) → AreLaid s.clusters (layouts after)
   pub kept : stored after ≡ stored before
 
--- what of all parts no directive touches
+-- The same of all parts of clusters and groups, and the table.
+pub record BecomesEvery (s : Scenario) (change : Plain → Plain) (before : List ClusterPart) (groups : List GroupPart) (table : Table) (after : List ClusterPart) (groups' : List GroupPart) (table' : Table) : Type 0 where
+  pub state : AreLaid s.clusters (layouts before) → joined s table' after groups' ≡ change (joined s table before groups)
+  pub laid : AreLaid s.clusters (layouts before) → AreLaid s.clusters (layouts after)
+  pub kept : stored after ≡ stored before
+  pub framed : group_frames groups' ≡ group_frames groups
+
+-- A wide row that is lent the parts of groups too.
+pub record DoesEvery (s : Scenario) (row : Plain → Outcome) (answer : Answer) (before : List ClusterPart) (groups : List GroupPart) (table : Table) (after : List ClusterPart) (groups' : List GroupPart) (table' : Table) : Type 0 where
+  pub told : answer ≡ answer_of (row (joined s table before groups))
+  pub state : AreLaid s.clusters (layouts before) → joined s table' after groups' ≡ changed (joined s table before groups) (row (joined s table before groups))
+  pub laid : AreLaid s.clusters (layouts before) → AreLaid s.clusters (layouts after)
+  pub kept : stored after ≡ stored before
+  pub framed : group_frames groups' ≡ group_frames groups
+
+-- A wide row that is lent the parts of groups and the table alone.
+pub record DoesGroups (s : Scenario) (row : Plain → Outcome) (answer : Answer) (groups : List GroupPart) (table : Table) (groups' : List GroupPart) (table' : Table) : Type 0 where
+  pub told : (parts : List ClusterPart) → answer ≡ answer_of (row (joined s table parts groups))
+  pub state : (parts : List ClusterPart) → joined s table' parts groups' ≡ changed (joined s table parts groups) (row (joined s table parts groups))
+  pub framed : group_frames groups' ≡ group_frames groups
+
+-- what of all parts no directive touches: of the groups their frames
 pub record Untouched : Type 0 where
   pub scenario : Scenario
-  pub groups : List GroupPart
+  pub groups : List GroupFrame
   pub time : ℕ
 
 abbrev pub untouched : AllParts → Untouched
-untouched all = record { scenario = all.scenario; groups = all.groups; time = all.table.present }
+untouched all = record { scenario = all.scenario; groups = group_frames all.groups; time = all.table.present }
 
 -- A row that is lent all parts: the answer is that of the outcome, the state is changed as it says, the parts are still parts of that state and store the same, and the rest is untouched.
 pub record DoesAll (o : Outcome) (answer : Answer) (before after : AllParts) : Type 0 where
@@ -58,6 +97,23 @@ pub record DoesAll (o : Outcome) (answer : Answer) (before after : AllParts) : T
   pub laid : AreLaid before.scenario.clusters (layouts after.clusters)
   pub kept : stored after.clusters ≡ stored before.clusters
   pub rest : untouched after ≡ untouched before
+
+-- The state of these parts of clusters and groups by themselves.
+abbrev pub lent_both : List ClusterPart → List GroupPart → Plain
+lent_both parts groups = joined no_scenario no_objects parts groups
+
+-- In the queue of the barrier of an index stand exactly the lent threads that wait there, each once.
+abbrev pub IsQueueOf : List ClusterPart → List GroupPart → ℕ → Type 0
+IsQueueOf parts groups i = (t : ℕ) → times t (barrier_lent groups i).arrivals ≡ (if is_for (object_of_wait (thread_lent parts t).wait) (OfBarrier i) then 1 else 0)
+
+-- the state in which waits of threads have ended that had left their queues before
+abbrev pub woken : Plain → List Wake → Plain
+woken k [] = k
+woken k (wake ∷ wakes) = woken (stop_wait k wake.thread (record { status = wake.status; out = wake.out })) wakes
+
+-- the threads of these wakes live
+abbrev pub AllLive : List ClusterPart → List Wake → Type 0
+AllLive parts wakes = AllByRecursion (λ (wake : Wake). has_begun (thread_lent parts wake.thread).life ≡ true) wakes
 
 -- the state with another table
 abbrev pub with_table : Plain → Table → Plain
@@ -73,9 +129,10 @@ abbrev pub IsFirst : ℕ → List ℕ → Type 0
 IsFirst index [] = ⊥
 IsFirst index (first ∷ more) = first ≡ index
 
--- the thread whose timer this is lives
+-- the thread whose timer this is lives; of a period nothing is asked
 abbrev pub HasLife : List ClusterPart → Armer → Type 0
 HasLife parts (OfThread t) = has_begun (thread_lent parts t).life ≡ true
+HasLife parts (OfPeriod i) = Unit {0}
 
 -- whether the caller goes on after an answer
 abbrev pub goes_on_after : Answer → Bool

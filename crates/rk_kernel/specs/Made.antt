@@ -4,6 +4,8 @@ use Rattle.std.specs.List.{slice_index_or}
 use Rattle.rk_model.specs.Text.Scenarios.{cpus_in}
 use Rattle.rk_cluster.specs.Clusters.{empty_cluster}
 use Rattle.rk_parts.specs.declared.parts.ClusterPart.{ClusterPart}
+use Rattle.rk_parts.specs.declared.parts.GroupPart.{GroupPart}
+use Rattle.rk_signal.specs.Barriers.{none_live}
 use Rattle.rk_parts.specs.Threads.{no_threads}
 
 -- the part of a cluster without threads, of so many processors from a first on
@@ -17,3 +19,11 @@ vacant_in counts c = vacant_part c (cpus_in (take c counts)) (slice_index_or cou
 -- the parts of all clusters, without threads
 abbrev pub vacant_parts : List ℕ → List ClusterPart
 vacant_parts counts = vacant_in counts 0 ∷ vacant_in counts 1 ∷ vacant_in counts 2 ∷ vacant_in counts 3 ∷ []
+
+-- the part of a group in which no object lives
+abbrev pub vacant_group : ℕ → GroupPart
+vacant_group number = record { present = 0; barriers = none_live number; wakes = [] }
+
+-- the parts of all groups, in which no object lives
+abbrev pub vacant_groups : List GroupPart
+vacant_groups = vacant_group 0 ∷ vacant_group 1 ∷ vacant_group 2 ∷ vacant_group 3 ∷ []

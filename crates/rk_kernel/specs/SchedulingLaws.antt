@@ -1,4 +1,4 @@
--- What holds of each state that a legal history leads to: of lines, runners and processors, and of refusals.
+-- What holds of each state that a legal history leads to: of lines, runners and processors, of names, of waits, and of refusals.
 use Rattle.std.specs.Prelude.{ℕ, ◌+◌, ◌<◌, ◌≤◌, ◌≡◌, ◌↔◌, ◌⊎◌, List, [], ◌∷◌, ◌++◌, Bool, true, false, ◌&&◌, ◌||◌, not, Option, Some, None, ◌==◌, length, if◌then◌else◌}
 use Rattle.rk_model.specs.declared.limits.TheConstants.{MOST_OBJECTS}
 use Rattle.rk_model.specs.declared.scenario.Scenario.{Scenario}
@@ -10,11 +10,14 @@ use Rattle.rk_model.specs.declared.state.Thread.{Thread}
 use Rattle.rk_model.specs.declared.entry.View.TheVariants.{Runs}
 use Rattle.rk_model.specs.Lists.{has, times}
 use Rattle.rk_model.specs.declared.ids.Class.{Class}
-use Rattle.rk_model.specs.declared.ids.Class.TheVariants.{Task}
+use Rattle.rk_model.specs.declared.ids.Class.TheVariants.{Task, Barrier}
 use Rattle.rk_model.specs.Names.{indices, lives}
-use Rattle.rk_model.specs.State.{Plain, no_thread, thread_at, put_thread, op_at, cluster_at}
+use Rattle.rk_model.specs.State.{Plain, ClusterState, no_thread, no_barrier, thread_at, put_thread, barrier_at, op_at, cluster_at}
 use Rattle.rk_model.specs.Directives.Objects.{names_in, is_live}
 use Rattle.rk_model.specs.Directives.Outcomes.{finished}
+use Rattle.rk_model.specs.Directives.Waits.{Object, object_of_wait, is_for, arrivals_in}
+use Rattle.rk_model.specs.Scheduling.Timers.{times_armed}
+use Rattle.rk_model.specs.declared.state.Armer.TheVariants.{Thread as OfThread}
 use Rattle.rk_model.specs.Steps.{Act, act}
 use Rattle.rk_model.specs.Scheduling.Priorities.{urgency}
 use Rattle.rk_model.specs.Scheduling.ReadyQueues.{rank, runners}
@@ -23,7 +26,7 @@ use Rattle.rk_model.specs.Histories.{Legal, after, ends, lowest}
 use Rattle.rk_model.specs.Text.Scenarios.{IsScenario}
 use Rattle.rk_kernel.specs.declared.steps.CoreStep.{CoreStep}
 use Rattle.rk_kernel.specs.declared.steps.CoreStep.TheVariants.{Did, Nothing}
-use Rattle.rk_kernel.specs.Sound.{stands, has_action}
+use Rattle.rk_kernel.specs.Sound.{stands, has_action, is_waiting, is_asleep}
 
 -- it holds of the state after each legal history of each scenario
 abbrev pub AfterEach : (Plain → Type 0) → Type 0
@@ -83,6 +86,28 @@ NamesAndObjectsAgree = AfterEach (λ k. (class : Class) → HasNames k class)
 -- Where no task has a name, there is no thread: nothing is left there of one that was deleted.
 abbrev pub NothingIsLeftOfDeletedTasks : Type 0
 NothingIsLeftOfDeletedTasks = AfterEach (λ k. (t : ℕ) → lives (names_in k Task) t ≡ false → thread_at k t ≡ no_thread)
+
+-- Where no barrier has a name, there is none: nothing is left there of one that was deleted.
+abbrev pub NothingIsLeftOfDeletedBarriers : Type 0
+NothingIsLeftOfDeletedBarriers = AfterEach (λ k. (i : ℕ) → lives (names_in k Barrier) i ≡ false → barrier_at k i ≡ no_barrier)
+
+-- how many timers of a thread are armed in these clusters
+abbrev pub timers_of : List ClusterState → ℕ → ℕ
+timers_of [] t = 0
+timers_of (cluster ∷ clusters) t = times_armed (OfThread t) cluster.timers + timers_of clusters t
+
+-- The waits of a thread agree with queues and timers.
+pub record HasTies (k : Plain) (t : ℕ) : Type 0 where
+  -- it stands in the queue of an object, once, exactly where it waits for that object, and in no other queue;
+  pub queued : (object : Object) → times t (arrivals_in k.barriers object) ≡ (if is_for (object_of_wait (thread_at k t).wait) object then 1 else 0)
+  -- it has at most one timer, and none where it doesn't wait;
+  pub timed : timers_of k.clusters t ≤ (if is_waiting (thread_at k t).wait then 1 else 0)
+  -- and exactly one where it waits for a time
+  pub wakes : is_asleep (thread_at k t).wait ≡ true → timers_of k.clusters t ≡ 1
+
+-- It is so of each thread after each legal history.
+abbrev pub WaitsAndQueuesAgree : Type 0
+WaitsAndQueuesAgree = AfterEach (λ k. (t : ℕ) → HasTies k t)
 
 -- The history in which always the lowest-numbered processor that has a directive acts ends with End, or has as many entries as it may have.
 abbrev pub LowestGoesOn : Type 0

@@ -1,6 +1,6 @@
 -- What holds of each state that a run of a scenario reaches.
 use Rattle.std.specs.Prelude.{ℕ, ◌+◌, ◌<◌, ◌≤◌, ◌≡◌, List, [], ◌∷◌, Bool, true, false, ◌&&◌, ◌==◌, Option, Some, None, length, All, filter, if◌then◌else◌}
-use Rattle.std.specs.List.{range_with_len}
+use Rattle.std.specs.List.{range_with_len, slice_index_or}
 use Rattle.rk_model.specs.declared.limits.TheConstants.{MOST_CLUSTERS, MOST_PROCESSORS, MOST_OBJECTS, MOST_LINES, MOST_TICKS}
 use Rattle.rk_model.specs.declared.scenario.Scenario.{Scenario}
 use Rattle.rk_model.specs.declared.scenario.Op.{Op}
@@ -9,9 +9,11 @@ use Rattle.rk_model.specs.declared.state.Armed.{Armed}
 use Rattle.rk_model.specs.declared.state.Armer.TheVariants.{Thread as OfThread}
 use Rattle.rk_model.specs.declared.entry.Reply.{Reply}
 use Rattle.rk_model.specs.declared.state.Wait.{Wait}
+use Rattle.rk_model.specs.declared.state.Wait.TheVariants.{ForTime, ForEvents, AtBarrier}
 use Rattle.rk_model.specs.Lists.{has, times, nth}
 use Rattle.rk_model.specs.Directives.Lines.{kind_at, is_act}
-use Rattle.rk_model.specs.State.{Plain, ClusterState, no_thread, thread_at, op_at}
+use Rattle.rk_model.specs.Directives.Waits.{Object, object_of_wait, is_for, arrivals_in}
+use Rattle.rk_model.specs.State.{Plain, ClusterState, BarrierState, no_thread, no_cluster, thread_at, op_at}
 use Rattle.rk_model.specs.Scheduling.Priorities.{is_started, is_eligible}
 use Rattle.rk_model.specs.Scheduling.ReadyQueues.{has_cpu}
 use Rattle.rk_model.specs.Scheduling.Running.{cpu_count}
@@ -102,9 +104,37 @@ pub record Fits (s : Scenario) (clusters present : ℕ) (x : Place) : Type 0 whe
 abbrev pub IsInBounds : Scenario → ℕ → ℕ → Thread → Type 0
 IsInBounds s clusters present thread = Fits s clusters present (place_of thread)
 
--- A state that a run may reach: sizes and numbers are within their limits, its bodies may be run, each thread is in bounds, each cluster is sound, and names and objects agree.
+-- whether a thread that waits for this sleeps, which is to wait for a time
+abbrev pub is_asleep : Option Wait → Bool
+is_asleep None = false
+is_asleep (Some ForTime) = true
+is_asleep (Some (ForEvents set all)) = false
+is_asleep (Some (AtBarrier i)) = false
+
+-- A thread stands in the queue of an object once where it waits for that object, and in no other queue.
+abbrev pub IsQueued : List BarrierState → List Thread → ℕ → Type 0
+IsQueued barriers threads t = (object : Object) → times t (arrivals_in barriers object) ≡ (if is_for (object_of_wait (nth no_thread threads t).wait) object then 1 else 0)
+
+-- A thread that sleeps has a timer in its home.
+abbrev pub WillWake : List Thread → List ClusterState → ℕ → Type 0
+WillWake threads clusters t = is_asleep (nth no_thread threads t).wait ≡ true → 1 ≤ times_armed (OfThread t) (slice_index_or clusters (nth no_thread threads t).home no_cluster).timers
+
+-- Waits agree with queues and timers, but for some threads.
+pub record AreTied (barriers : List BarrierState) (threads : List Thread) (clusters : List ClusterState) (but : ℕ → Bool) : Type 0 where
+  pub queued : (t : ℕ) → but t ≡ false → IsQueued barriers threads t
+  pub wakes : (t : ℕ) → but t ≡ false → WillWake threads clusters t
+
+-- for no thread, and for one
+abbrev pub but_none : ℕ → Bool
+but_none t = false
+
+abbrev pub but_one : ℕ → ℕ → Bool
+but_one t u = u == t
+
+-- A state that a run may reach: sizes and numbers are within their limits, its bodies may be run, each thread is in bounds, each cluster is sound, names and objects agree, and waits agree with queues and timers.
 pub record IsSound (k : Plain) : Type 0 where
   pub places : length k.threads ≡ MOST_OBJECTS
+  pub halls : length k.barriers ≡ MOST_OBJECTS
   pub few_clusters : length k.clusters ≤ MOST_CLUSTERS
   pub some_cluster : 0 < length k.clusters
   pub few_cpus : cpu_count k ≤ MOST_PROCESSORS
@@ -113,7 +143,8 @@ pub record IsSound (k : Plain) : Type 0 where
   pub bodies : AreRunnable k.scenario.bodies
   pub threads : All (IsInBounds k.scenario (length k.clusters) k.present) k.threads
   pub clusters : AllSound k 0 k.clusters
-  pub named : AreNamed k.table k.threads
+  pub named : AreNamed k.table k.threads k.barriers
+  pub tied : AreTied k.barriers k.threads k.clusters but_none
 
 -- Each cluster has its line and its processors as before.
 abbrev pub KeepsLines : List ClusterState → List ClusterState → Type 0
@@ -127,12 +158,18 @@ abbrev pub AllTimed : List Thread → ℕ → List ClusterState → Type 0
 AllTimed threads c [] = Unit {0}
 AllTimed threads c (cluster ∷ clusters) = AreTimed threads c cluster.timers × AllTimed threads (c + 1) clusters
 
--- A change of a state k that settling makes sound again: lines and processors are still those of k, and names and objects agree.
-pub record IsGentle (k next : Plain) : Type 0 where
+-- A change of a state k that settling makes sound again, but that the waits of some threads don't agree with queues and timers yet: lines and processors are still those of k, and names and objects agree.
+pub record IsGentleBut (k next : Plain) (but : ℕ → Bool) : Type 0 where
   pub scenario : next.scenario ≡ k.scenario
   pub present : next.present ≡ k.present
   pub places : length next.threads ≡ length k.threads
+  pub halls : length next.barriers ≡ length k.barriers
   pub threads : All (IsInBounds k.scenario (length k.clusters) k.present) next.threads
   pub lines : KeepsLines k.clusters next.clusters
   pub timers : AllTimed next.threads 0 next.clusters
-  pub named : AreNamed next.table next.threads
+  pub named : AreNamed next.table next.threads next.barriers
+  pub tied : AreTied next.barriers next.threads next.clusters but
+
+-- A change of a state that settling makes sound again.
+abbrev pub IsGentle : Plain → Plain → Type 0
+IsGentle k next = IsGentleBut k next but_none

@@ -2,7 +2,7 @@
 
 ghost use Rattle.std.specs.Prelude.{◌≡◌, ◌<◌, ◌≤◌, None, length};
 ghost use Rattle.rk_model.specs.declared.scenario.Scenario.{Scenario as ScenarioView};
-ghost use Rattle.rk_model.specs.Directives.Outcomes.{reply_at_timer};
+ghost use Rattle.rk_model.specs.Directives.Waits.{reply_at_timer};
 ghost use Rattle.rk_model.specs.Scheduling.Running.{least};
 ghost use Rattle.rk_model.specs.Scheduling.Ticks.{charged, charge_from, pass, rung, fire_cluster, fire_all};
 ghost use Rattle.rk_model.specs.Limits.{AreRunnable};
@@ -10,17 +10,18 @@ ghost use Rattle.rk_parts.specs.Firing.{due_now, FiresFirst};
 ghost use Rattle.rk_parts.specs.Joined.{plain_of, threads_of};
 ghost use Rattle.rk_parts.specs.Lent.{frame};
 ghost use Rattle.rk_parts.specs.Noted.{AreNoted};
-ghost use Rattle.rk_kernel.specs.Does.{Becomes, HasLife, untouched};
+ghost use Rattle.rk_kernel.specs.Does.{BecomesBoth, HasLife, untouched};
 ghost use Rattle.rk_kernel.specs.Manned.{RunOnce};
 ghost use Rattle.rk_kernel.specs.Ready.{IsReady};
 ghost use Rattle.rk_kernel.specs.Step.{IsTick};
 
-use crate::directives::outcomes::end_wait;
+use crate::directives::outcomes::bare;
+use crate::directives::waits::end_wait;
 use crate::steps::CoreTick;
 use rk_model::{Armer, Reply, Scenario, Status, Thread, View, Wait};
 use rk_parts::arrival::arrive;
 use rk_parts::lent::{renew, thread_of};
-use rk_parts::parts::{AllParts, ClusterPart};
+use rk_parts::parts::{AllParts, ClusterPart, GroupPart};
 use rk_parts::processors::{count_cpus, least_of, view_on};
 use rk_parts::settle::settle_parts;
 use rk_parts::ticks::{pass_tick, present};
@@ -84,23 +85,22 @@ fn reply_at_timer(wait: Option<Wait>) -> Reply
     ensures { result ≡ reply_at_timer wait }
 {
     match wait {
-        Some(Wait::ForTime) | None => Reply {
-            status: Status::Successful,
-            out: 0,
-        },
+        Some(Wait::ForTime) | None => bare(Status::Successful),
+        Some(Wait::ForEvents(_, _)) | Some(Wait::AtBarrier(_)) => bare(Status::Timeout),
     }
 }
 
-/// A timer fires: the wait of its thread, which lives, ends.
-fn rung(clusters: &mut [ClusterPart], who: Armer)
+/// A timer fires: the wait of its thread, which lives, ends. No period has a timer so far.
+fn rung(clusters: &mut [ClusterPart], groups: &mut [GroupPart], who: Armer)
     requires { HasLife clusters.old who }
-    ensures { (s : ScenarioView) → Becomes s (λ k. rung k who) clusters.old clusters.new }
+    ensures { (s : ScenarioView) → BecomesBoth s (λ k. rung k who) clusters.old groups.old clusters.new groups.new }
 {
     match who {
         Armer::Thread(thread) => {
             let wait = thread_of(clusters, thread).wait;
-            end_wait(clusters, thread, reply_at_timer(wait));
+            end_wait(clusters, groups, thread, reply_at_timer(wait));
         }
+        Armer::Period(_) => {}
     }
 }
 
@@ -116,7 +116,7 @@ fn fire_first(all: &mut AllParts, cluster: u8) -> bool
     match take_due_of(&mut all.clusters, cluster) {
         None => false,
         Some(timer) => {
-            rung(&mut all.clusters, timer.who);
+            rung(&mut all.clusters, &mut all.groups, timer.who);
             settle_parts(&mut all.clusters, &None);
             true
         }

@@ -3,25 +3,32 @@
 //! A narrow directive is done on the cluster parts that are lent, however many, and touches them
 //! through the accessors of `rk_parts` alone. A wide one needs all of them and the table.
 
+pub(crate) mod barriers;
+pub(crate) mod events;
 pub(crate) mod objects;
 pub(crate) mod outcomes;
 pub(crate) mod tasks;
+pub(crate) mod waits;
 
-ghost use Rattle.std.specs.Prelude.{◌≡◌, ◌<◌, Some, length, true, false};
+ghost use Rattle.std.specs.Prelude.{◌≡◌, ℕ, None, Some, true, false};
 ghost use Rattle.rk_model.specs.declared.entry.Reply.{Reply as ReplyView};
 ghost use Rattle.rk_model.specs.declared.scenario.Scenario.{Scenario as ScenarioView};
+ghost use Rattle.rk_model.specs.declared.state.Armer.TheVariants.{Thread as OfThread};
 ghost use Rattle.rk_model.specs.Directives.Objects.{has_begun};
 ghost use Rattle.rk_model.specs.Limits.{AreRunnable};
+ghost use Rattle.rk_model.specs.Scheduling.Timers.{times_armed};
 ghost use Rattle.rk_model.specs.State.{thread_at};
 ghost use Rattle.rk_model.specs.Steps.{action, back, directive, is_wide};
-ghost use Rattle.rk_kernel.specs.Does.{Does, DoesAll};
-ghost use Rattle.rk_kernel.specs.Calls.{IsActing};
+ghost use Rattle.rk_kernel.specs.Does.{Does, DoesAll, DoesBoth, IsQueueOf, lent_both};
+ghost use Rattle.rk_kernel.specs.Calls.{IsActing, queue_named};
 ghost use Rattle.rk_parts.specs.Joined.{plain_of, thread_lent, timers_lent};
 ghost use Rattle.rk_parts.specs.Whole.{AreWhole};
 
+use barriers::{barrier_create, barrier_delete, barrier_ident, barrier_release, barrier_wait};
+use events::{event_receive, event_send};
 use rk_model::{Answer, Op, Reply, Scenario, Thread, ThreadIx};
 use rk_parts::lent::{renew, thread_of};
-use rk_parts::parts::{AllParts, ClusterPart};
+use rk_parts::parts::{AllParts, ClusterPart, GroupPart};
 use tasks::{
     task_create, task_delete, task_exit, task_ident, task_resume, task_set_priority, task_start,
     task_suspend, task_wake_after,
@@ -45,14 +52,17 @@ fn back(clusters: &mut [ClusterPart], caller: ThreadIx, reply: Reply) -> Answer
 fn perform_narrow(
     scenario: &Scenario,
     clusters: &mut [ClusterPart],
+    groups: &mut [GroupPart],
     caller: ThreadIx,
     op: Op,
 ) -> Answer
     requires narrow { is_wide op ≡ false }
     requires lives { has_begun (thread_lent clusters.old caller).life ≡ true }
-    requires room { length (timers_lent clusters.old caller) < 64 }
+    requires unarmed { times_armed (OfThread caller) (timers_lent clusters.old caller) ≡ 0 }
+    requires free { (thread_lent clusters.old caller).wait ≡ None }
+    requires queue { (i : ℕ) → queue_named (lent_both clusters.old groups.old) caller op ≡ Some i → IsQueueOf clusters.old groups.old i }
     requires bodies { AreRunnable scenario.now.bodies }
-    ensures { Does scenario.now (λ k. directive k caller (Some op)) result clusters.old clusters.new }
+    ensures { DoesBoth scenario.now (λ k. directive k caller (Some op)) result clusters.old groups.old clusters.new groups.new }
 {
     match op {
         Op::TaskStart(id, body) => task_start(scenario, clusters, caller, id, body),
@@ -60,9 +70,18 @@ fn perform_narrow(
         Op::TaskResume(id) => task_resume(clusters, caller, id),
         Op::TaskSetPriority(id, prio, _) => task_set_priority(clusters, caller, id, prio),
         Op::TaskWakeAfter(ticks) => task_wake_after(clusters, caller, ticks),
+        Op::EventSend(id, set) => event_send(clusters, groups, caller, id, set),
+        Op::EventReceive(set, all, wish, _) => event_receive(clusters, caller, set, all, wish),
+        Op::BarrierWait(id, ticks) => barrier_wait(clusters, groups, caller, id, ticks),
+        Op::BarrierRelease(id, _) => barrier_release(clusters, groups, caller, id),
         Op::Work(_) => task_exit(clusters, caller),
         Op::Goto(_) => task_exit(clusters, caller),
-        Op::TaskCreate(_, _, _) | Op::TaskIdent(_, _) | Op::TaskDelete(_) => unreachable!(),
+        Op::TaskCreate(_, _, _)
+        | Op::TaskIdent(_, _)
+        | Op::TaskDelete(_)
+        | Op::BarrierCreate(_, _, _, _)
+        | Op::BarrierIdent(_, _)
+        | Op::BarrierDelete(_) => unreachable!(),
     }
 }
 
@@ -77,8 +96,35 @@ fn perform(all: &mut AllParts, caller: ThreadIx, op: Op) -> Answer
             task_create(&mut all.clusters, &mut all.table.names, caller, name, prio)
         }
         Op::TaskIdent(name, _) => task_ident(&all.table.names, name),
-        Op::TaskDelete(id) => task_delete(&mut all.clusters, &mut all.table.names, caller, id),
-        _ => perform_narrow(&all.scenario, &mut all.clusters, caller, op),
+        Op::TaskDelete(id) => task_delete(
+            &mut all.clusters,
+            &mut all.groups,
+            &mut all.table.names,
+            caller,
+            id,
+        ),
+        Op::BarrierCreate(name, automatic, most, _) => barrier_create(
+            &mut all.groups,
+            &mut all.table.names,
+            name,
+            automatic,
+            most,
+        ),
+        Op::BarrierIdent(name, _) => barrier_ident(&all.table.names, name),
+        Op::BarrierDelete(id) => barrier_delete(
+            &mut all.clusters,
+            &mut all.groups,
+            &mut all.table.names,
+            caller,
+            id,
+        ),
+        _ => perform_narrow(
+            &all.scenario,
+            &mut all.clusters,
+            &mut all.groups,
+            caller,
+            op,
+        ),
     }
 }
 

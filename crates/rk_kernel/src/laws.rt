@@ -3,7 +3,7 @@
 //! Each speaks of the state after any legal history of a scenario, but for the last two: one speaks
 //! of the planned history, and one of every state.
 
-ghost use Rattle.rk_kernel.specs.SchedulingLaws.{LinesHoldTheirOwn, ProcessorsHaveTheRunners, RunnersAreTheMostUrgent, NoneRunsTwice, NamesAndObjectsAgree, NothingIsLeftOfDeletedTasks, NoneActsAtWork, RefusalsChangeTheCallerAlone, LowestGoesOn};
+ghost use Rattle.rk_kernel.specs.SchedulingLaws.{LinesHoldTheirOwn, ProcessorsHaveTheRunners, RunnersAreTheMostUrgent, NoneRunsTwice, NamesAndObjectsAgree, NothingIsLeftOfDeletedTasks, NothingIsLeftOfDeletedBarriers, WaitsAndQueuesAgree, NoneActsAtWork, RefusalsChangeTheCallerAlone, LowestGoesOn};
 ghost use Rattle.rk_kernel.specs.Cut.{SuspendNeedsItsClusterAlone};
 
 /// The ready queue of each cluster holds exactly the eligible threads of that home, each once.
@@ -36,6 +36,18 @@ pub fn names_and_objects_agree()
 /// Where no task has a name, there is no thread: nothing is left there of one that was deleted.
 pub fn nothing_is_left_of_deleted_tasks()
     ensures { NothingIsLeftOfDeletedTasks }
+{}
+
+/// Where no barrier has a name, there is none: nothing is left there of one that was deleted.
+pub fn nothing_is_left_of_deleted_barriers()
+    ensures { NothingIsLeftOfDeletedBarriers }
+{}
+
+/// A thread stands in the queue of an object, once, exactly where it waits for that object, and in no
+/// other queue; it has at most one timer, only where it waits, and exactly one where it waits for a
+/// time.
+pub fn waits_and_queues_agree()
+    ensures { WaitsAndQueuesAgree }
 {}
 
 /// A directive never acts for a line of work or a goto: a thread that has a directive and doesn't

@@ -12,17 +12,19 @@ ghost use Rattle.rk_parts.specs.Joined.{joined, plain_of, threads_of};
 ghost use Rattle.rk_parts.specs.Lent.{number_in, layouts, stored, AreLaid};
 ghost use Rattle.rk_parts.specs.Noted.{bare, AreNoted};
 ghost use Rattle.rk_parts.specs.Whole.{AreWhole};
-ghost use Rattle.rk_kernel.specs.Made.{vacant_part, vacant_parts};
+ghost use Rattle.rk_kernel.specs.Made.{vacant_group, vacant_part, vacant_parts};
 ghost use Rattle.rk_kernel.specs.Ready.{IsReady};
 
 use rk_cluster::{Cluster, Moves};
-use rk_model::{Body, Class, Init, Items, Life, NoMemory, Scenario, Thread, ThreadIx};
+use rk_model::{Body, Class, Init, Items, Life, NoMemory, Scenario, Thread, ThreadIx, Wakes};
 use rk_parts::arrival::arrive;
 use rk_parts::lent::make;
-use rk_parts::parts::{AllParts, ClusterPart, GroupPart, TablePart, Timers};
+use rk_parts::parts::{AllParts, ClusterPart, GroupPart, TablePart};
 use rk_parts::settle::settle_parts;
 use rk_parts::table::Table;
 use rk_parts::threads::Threads;
+use rk_signal::BarrierStore;
+use rk_wheel::Wheel;
 use std::alloc::Global;
 
 /// A body that equals this one.
@@ -79,7 +81,7 @@ fn make_cluster(alloc: Global, number: u8, first: u8, count: u8) -> Result<Clust
     Ok(ClusterPart {
         present: 0,
         lined: Cluster::new(alloc, number, first, count)?,
-        timers: Timers::new(alloc)?,
+        timers: Wheel::new(alloc)?,
         threads: Threads::new(alloc)?,
         moves: Moves::new(alloc)?,
     })
@@ -103,6 +105,18 @@ fn make_clusters(alloc: Global, counts: &[u8]) -> Result<[ClusterPart; 4], NoMem
     ])
 }
 
+/// The part of a group, in which no object lives.
+fn make_group(alloc: Global, number: u8) -> Result<GroupPart, NoMemory>
+    requires { number < 4 }
+    ensures { IfOk result (λ group. group ≡ vacant_group number) }
+{
+    Ok(GroupPart {
+        present: 0,
+        barriers: BarrierStore::new(alloc, number)?,
+        wakes: Wakes::new(alloc)?,
+    })
+}
+
 /// The parts of a state in which there is no task yet.
 fn make_vacant(alloc: Global, scenario: &Scenario) -> Result<AllParts, NoMemory>
     requires { IsWithinLimits scenario.now }
@@ -115,22 +129,10 @@ fn make_vacant(alloc: Global, scenario: &Scenario) -> Result<AllParts, NoMemory>
         scenario: copy_scenario(alloc, scenario)?,
         clusters,
         groups: [
-            GroupPart {
-                number: 0,
-                present: 0,
-            },
-            GroupPart {
-                number: 1,
-                present: 0,
-            },
-            GroupPart {
-                number: 2,
-                present: 0,
-            },
-            GroupPart {
-                number: 3,
-                present: 0,
-            },
+            make_group(alloc, 0)?,
+            make_group(alloc, 1)?,
+            make_group(alloc, 2)?,
+            make_group(alloc, 3)?,
         ],
         table: TablePart {
             present: 0,

@@ -4,9 +4,9 @@ pub mod LayoutLemmas
 pub mod LentSeatLemmas
 pub mod LeastProcessorLemmas
 pub mod PutLemmas
+pub mod GroupLemmas
 pub mod ReplaceLemmas
 pub mod LentTimerLemmas
-pub mod TimerListLemmas
 pub mod StandingLemmas
 pub mod MarkLemmas
 pub mod SettlingLemmas

@@ -17,7 +17,7 @@ use Rattle.rk_model.specs.Directives.Objects.{has_begun}
 use Rattle.rk_model.proofs.IndexLemmas.{nth-with_other, nth-with_same}
 use Rattle.rk_parts.specs.declared.parts.ClusterPart.{ClusterPart}
 use Rattle.rk_parts.specs.declared.parts.GroupPart.{GroupPart}
-use Rattle.rk_parts.specs.Joined.{cluster_of, placed_in, lives_in, held, numbered, present_of, threads_of, clusters_of, clusters_by, joined, thread_lent}
+use Rattle.rk_parts.specs.Joined.{barriers_of, cluster_of, placed_in, lives_in, held, numbered, present_of, threads_of, clusters_of, clusters_by, joined, thread_lent}
 use Rattle.rk_parts.specs.Lent.{found_in, Puts, layouts, stored}
 use Rattle.rk_parts.specs.Threads.{Threads, own_standing}
 use Rattle.rk_parts.specs.Noted.{part_at, no_part, standings_in, key_of, IsKeyed, AreNoted}
@@ -82,7 +82,7 @@ present_same (p ∷ ps) (suc at) part e = refl
 
 -- states that are the same but for a thread
 pub put_joined : (s : Scenario) (table : Table) (groups : List GroupPart) (old new : List ClusterPart) (t : ℕ) (x : Thread) → present_of new ≡ present_of old → clusters_of s.clusters new ≡ clusters_of s.clusters old → threads_of new ≡ with_nth (threads_of old) t x → joined s table new groups ≡ put_thread (joined s table old groups) t x
-put_joined s table groups old new t x e f g = λ i. record { scenario = s; present = e i; clusters = f i; threads = g i; table = table }
+put_joined s table groups old new t x e f g = λ i. record { scenario = s; present = e i; clusters = f i; threads = g i; barriers = barriers_of groups; table = table }
 
 -- one thread of one part put
 pub state_put : (s : Scenario) (table : Table) (groups : List GroupPart) (parts : List ClusterPart) (at t : ℕ) (x : Thread) → 1 ≤ t → held (set parts at (with_thread (part_at parts at) t x)) t ≡ x →

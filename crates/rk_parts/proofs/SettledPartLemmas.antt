@@ -22,7 +22,7 @@ use Rattle.rk_line.specs.Places.{threads}
 use Rattle.rk_parts.specs.declared.parts.ClusterPart.{ClusterPart}
 use Rattle.rk_parts.specs.declared.parts.GroupPart.{GroupPart}
 use Rattle.rk_parts.specs.Threads.{StandAsNoted, is_ready, own_standing}
-use Rattle.rk_parts.specs.Joined.{listed, cluster_of, placed_in, lives_in, held, numbered, present_of, threads_of, clusters_of, clusters_by, joined, thread_lent}
+use Rattle.rk_parts.specs.Joined.{barriers_of, listed, cluster_of, placed_in, lives_in, held, numbered, present_of, threads_of, clusters_of, clusters_by, joined, thread_lent}
 use Rattle.rk_parts.specs.Lent.{found_in, number_in, one_more, AreLaid, Layout, layout, layouts, Stored, stored_in, stored}
 use Rattle.rk_parts.specs.ClusterRegisters.{register}
 use Rattle.rk_parts.specs.Noted.{key_of, IsKeyed, no_part, part_at, standings_in, AreNoted, LinesHold, settled_part, bare, one_lives}
@@ -396,7 +396,7 @@ clusters_settled s k now before mid new last is same =
     ∙ sym (settled_listed (shifts (standings k) (standings now) last) (urgency now) 64 (numbered s.clusters mid) 0 (length s.clusters))
 
 same_state : (s : Scenario) (table : Table) (groups : List GroupPart) (mid new : List ClusterPart) (clusters : List ClusterState) → present_of new ≡ present_of mid → clusters_of s.clusters new ≡ clusters → threads_of new ≡ threads_of mid → joined s table new groups ≡ (let k : Plain = record (joined s table mid groups) { clusters = clusters } in k)
-same_state s table groups mid new clusters e f g = λ i. record { scenario = s; present = e i; clusters = f i; threads = g i; table = table }
+same_state s table groups mid new clusters e f g = λ i. record { scenario = s; present = e i; clusters = f i; threads = g i; barriers = barriers_of groups; table = table }
 
 -- The parts, each settled, stand for the settled state.
 pub settled_joined : (s : Scenario) (table : Table) (groups : List GroupPart) (k : Plain) (before mid new : List ClusterPart) (last : List ℕ) → Settles s k before mid new last → joined s table new groups ≡ settle k (joined s table mid groups) last

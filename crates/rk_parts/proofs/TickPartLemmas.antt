@@ -7,10 +7,11 @@ use Rattle.rk_parts.specs.declared.parts.ClusterPart.{ClusterPart}
 use Rattle.rk_parts.specs.declared.parts.GroupPart.{GroupPart}
 use Rattle.rk_parts.specs.declared.parts.AllParts.{AllParts}
 use Rattle.rk_model.specs.State.{Plain}
-use Rattle.rk_parts.specs.Joined.{cluster_of, placed_in, lives_in, held, numbered, present_of, threads_of, clusters_of, clusters_by, plain_of}
+use Rattle.rk_parts.specs.Joined.{barrier_of, barrier_held, barriers_of, cluster_of, placed_in, lives_in, held, numbered, present_of, threads_of, clusters_of, clusters_by, plain_of}
 use Rattle.rk_parts.specs.Lent.{AreLaid, Layout, layout, layouts, stored}
 use Rattle.rk_parts.specs.Noted.{part_at, standings_in, key_of, IsKeyed, AreNoted}
-use Rattle.rk_parts.specs.Whole.{AreWhole, ticks_of, ticks_in, at_tick, group_at_tick}
+use Rattle.rk_parts.specs.Whole.{AreWhole, ticks_of, ticks_in, numbers_in, at_tick, group_at_tick}
+use Rattle.rk_signal.specs.Barriers.{group_of, stored_at}
 use Rattle.rk_parts.proofs.ListedLemmas.{same_listed}
 use Rattle.rk_parts.proofs.PutLemmas.{Ranked, keys_in}
 
@@ -60,14 +61,27 @@ tick_at f n [] i same = refl
 tick_at f n (p ∷ ps) zero same = same p
 tick_at f n (p ∷ ps) (suc i) same = tick_at f n ps i same
 
+held_by_groups : (n : ℕ) (groups : List GroupPart) (i : ℕ) → barrier_held (map (group_at_tick n) groups) i ≡ barrier_held groups i
+held_by_groups n [] i = refl
+held_by_groups n (g ∷ gs) i = ap (λ rest. if g.barriers.group == group_of i then barrier_of (stored_at g.barriers i) else rest) (held_by_groups n gs i)
+
+numbers_tick : (n : ℕ) (groups : List GroupPart) → numbers_in (map (group_at_tick n) groups) ≡ numbers_in groups
+numbers_tick n [] = refl
+numbers_tick n (g ∷ gs) = ap (λ ns. g.barriers.group ∷ ns) (numbers_tick n gs)
+
+barriers_tick : (n : ℕ) (groups : List GroupPart) → barriers_of (map (group_at_tick n) groups) ≡ barriers_of groups
+unfolding barriers_of
+barriers_tick n groups = same_listed (barrier_held (map (group_at_tick n) groups)) (barrier_held groups) 1 64 (held_by_groups n groups)
+
 -- all parts with another tick stand for the state with that tick,
-pub state_tick : (n : ℕ) (old new : AllParts) → AreWhole old → new.clusters ≡ map (at_tick n) old.clusters → new.scenario ≡ old.scenario → new.table.names ≡ old.table.names → plain_of new ≡ (let k : Plain = record (plain_of old) { present = n } in k)
-state_tick n old new whole clusters scenario names =
+pub state_tick : (n : ℕ) (old new : AllParts) → AreWhole old → new.clusters ≡ map (at_tick n) old.clusters → new.groups ≡ map (group_at_tick n) old.groups → new.scenario ≡ old.scenario → new.table.names ≡ old.table.names → plain_of new ≡ (let k : Plain = record (plain_of old) { present = n } in k)
+state_tick n old new whole clusters groups scenario names =
     let tick : present_of new.clusters ≡ n = ap present_of clusters ∙ present_tick n 3 old.clusters whole.four in
     let cs : clusters_of new.scenario.clusters new.clusters ≡ clusters_of old.scenario.clusters old.clusters =
     ap (λ (s : Scenario). clusters_of s.clusters new.clusters) scenario ∙ ap (λ (ps : List ClusterPart). clusters_of old.scenario.clusters ps) clusters ∙ clusters_tick n old.scenario.clusters old.clusters in
     let ts : threads_of new.clusters ≡ threads_of old.clusters = ap (λ (ps : List ClusterPart). threads_of ps) clusters ∙ threads_tick n old.clusters in
-    λ i. record { scenario = scenario i; present = tick i; clusters = cs i; threads = ts i; table = names i }
+    let bs : barriers_of new.groups ≡ barriers_of old.groups = ap (λ (gs : List GroupPart). barriers_of gs) groups ∙ barriers_tick n old.groups in
+    λ i. record { scenario = scenario i; present = tick i; clusters = cs i; threads = ts i; barriers = bs i; table = names i }
 
 -- are whole
 pub whole_tick : (n : ℕ) (old new : AllParts) → AreWhole old → new.clusters ≡ map (at_tick n) old.clusters → new.groups ≡ map (group_at_tick n) old.groups → new.table.present ≡ n → new.scenario ≡ old.scenario → AreWhole new
@@ -78,6 +92,7 @@ whole_tick n old new whole clusters groups table scenario =
       four = ap (λ (ps : List ClusterPart). length ps) clusters ∙ length-map old.clusters (at_tick n) ∙ whole.four;
       numbers = λ c h. ap (λ (ps : List ClusterPart). (part_at ps c).lined.number) clusters ∙ tick_at (λ (p : ClusterPart). p.lined.number) n old.clusters c (λ p. refl) ∙ whole.numbers c h;
       laid = subst (λ (s : Scenario). AreLaid s.clusters (layouts new.clusters)) (sym scenario) (subst (AreLaid old.scenario.clusters) (sym (ap (λ (ps : List ClusterPart). layouts ps) clusters ∙ layouts_tick n old.clusters)) whole.laid);
+      groups = ap (λ (gs : List GroupPart). numbers_in gs) groups ∙ numbers_tick n old.groups ∙ whole.groups;
       time = record {
         clusters = ap (λ (ps : List ClusterPart). ticks_of (stored ps)) clusters ∙ ticks_tick n old.clusters ∙ ap (λ m. replicate m n) whole.four ∙ ap (replicate 4) (sym tick);
         groups = ap (λ (gs : List GroupPart). ticks_in gs) groups ∙ groups_tick n old.groups ∙ ap (λ m. replicate m n) four ∙ ap (replicate 4) (sym tick);

@@ -1,5 +1,5 @@
 -- All parts of a running kernel, after a change and after settling.
-use Rattle.std.proofs.Common.{◌≡◌, ℕ, ◌<◌, ◌≤◌, List, [], ◌∷◌, Some, length, map, replicate, arith, refl, sym, ap, ◌∙◌, subst}
+use Rattle.std.proofs.Common.{◌≡◌, ℕ, ◌<◌, ◌≤◌, List, [], ◌∷◌, true, Some, length, map, replicate, arith, refl, sym, ap, ◌∙◌, subst}
 use Rattle.std.proofs.lemmas.List.{length-map}
 use Rattle.rk_model.specs.declared.scenario.Scenario.{Scenario}
 use Rattle.rk_model.specs.Scheduling.Settling.{settle}
@@ -9,7 +9,9 @@ use Rattle.rk_parts.specs.declared.parts.AllParts.{AllParts}
 use Rattle.rk_parts.specs.Joined.{joined, present_of, plain_of}
 use Rattle.rk_parts.specs.Lent.{number_in, AreLaid, layouts, Stored, stored_in, stored}
 use Rattle.rk_parts.specs.Noted.{part_at, AreNoted, LinesHold, settled_part, bare}
-use Rattle.rk_parts.specs.Whole.{ticks_of, ticks_in, AreWhole}
+use Rattle.rk_parts.specs.Groups.{GroupFrame, group_frames, is_lent}
+use Rattle.rk_parts.specs.Whole.{ticks_of, ticks_in, numbers_in, AreWhole}
+use Rattle.rk_parts.proofs.GroupLemmas.{four_lent}
 use Rattle.rk_parts.proofs.LayoutLemmas.{lie}
 use Rattle.rk_parts.proofs.LentTimerLemmas.{number_found}
 use Rattle.rk_parts.proofs.SettledPartLemmas.{Settles, same_stored, part_settled, length_settled, layouts_settled, settled_joined, noted_settled}
@@ -20,6 +22,23 @@ lent_all counts parts c four numbers laid few known = number_found counts parts 
 
 pub lent_whole : (all : AllParts) (c : ℕ) → AreWhole all → length all.scenario.clusters ≤ 4 → c < length all.scenario.clusters → number_in all.clusters c ≡ Some c
 lent_whole all c whole few known = lent_all all.scenario.clusters all.clusters c whole.four whole.numbers whole.laid few known
+
+-- each index is that of a lent group
+pub all_groups_lent : (all : AllParts) (i : ℕ) → AreWhole all → 1 ≤ i → i ≤ 64 → is_lent all.groups i ≡ true
+all_groups_lent all i whole low high = four_lent all.groups i whole.groups
+
+-- what groups with the same frame have alike
+pub ticks_framed : (old new : List GroupPart) → group_frames new ≡ group_frames old → ticks_in new ≡ ticks_in old
+ticks_framed old new same = ticks_are new ∙ ap (λ (fs : List GroupFrame). map (λ (f : GroupFrame). f.present) fs) same ∙ sym (ticks_are old) where
+  ticks_are : (groups : List GroupPart) → ticks_in groups ≡ map (λ (f : GroupFrame). f.present) (group_frames groups)
+  ticks_are [] = refl
+  ticks_are (g ∷ gs) = ap (λ ts. g.present ∷ ts) (ticks_are gs)
+
+pub numbers_framed : (old new : List GroupPart) → group_frames new ≡ group_frames old → numbers_in new ≡ numbers_in old
+numbers_framed old new same = numbers_are new ∙ ap (λ (fs : List GroupFrame). map (λ (f : GroupFrame). f.number) fs) same ∙ sym (numbers_are old) where
+  numbers_are : (groups : List GroupPart) → numbers_in groups ≡ map (λ (f : GroupFrame). f.number) (group_frames groups)
+  numbers_are [] = refl
+  numbers_are (g ∷ gs) = ap (λ ns. g.barriers.group ∷ ns) (numbers_are gs)
 
 -- ---- ticks
 
@@ -50,7 +69,7 @@ pub record Keeps (before mid : AllParts) : Type 0 where
   pub laid : AreLaid before.scenario.clusters (layouts mid.clusters)
   pub kept : stored mid.clusters ≡ stored before.clusters
   pub scenario : mid.scenario ≡ before.scenario
-  pub groups : mid.groups ≡ before.groups
+  pub groups : group_frames mid.groups ≡ group_frames before.groups
   pub table : mid.table.present ≡ before.table.present
 
 length_kept : (old new : List ClusterPart) → stored new ≡ stored old → length new ≡ length old
@@ -72,9 +91,10 @@ whole_settled before mid new last whole keeps done =
       four = length_settled last mid.clusters new done ∙ four;
       numbers = λ c low. ap (λ (p : ClusterPart). p.lined.number) (part_settled last mid.clusters new c done (omega (arith, four, low))) ∙ numbers_kept before mid whole keeps c low;
       laid = subst (λ (s : Scenario). AreLaid s.clusters (layouts new)) (sym keeps.scenario) (subst (AreLaid before.scenario.clusters) (sym (layouts_settled last mid.clusters new done)) keeps.laid);
+      groups = numbers_framed before.groups mid.groups keeps.groups ∙ whole.groups;
       time = record {
         clusters = ticks ∙ whole.time.clusters ∙ ap (replicate 4) (sym present);
-        groups = ap (λ (gs : List GroupPart). ticks_in gs) keeps.groups ∙ whole.time.groups ∙ ap (replicate 4) (sym present);
+        groups = ticks_framed before.groups mid.groups keeps.groups ∙ whole.time.groups ∙ ap (replicate 4) (sym present);
         table = keeps.table ∙ whole.time.table ∙ sym present;
       };
     }

@@ -1,13 +1,9 @@
 -- Timers as they fire, one after another, and as they are cancelled.
-use Rattle.std.specs.Prelude.{ℕ, ◌≡◌, List, [], ◌∷◌, Bool, true, false, Option, Some, None}
+use Rattle.std.specs.Prelude.{ℕ, ◌≡◌, List, [], ◌∷◌, Bool, true, false}
 use Rattle.rk_model.specs.declared.state.Armed.{Armed}
 use Rattle.rk_model.specs.State.{Plain, cluster_at}
 use Rattle.rk_model.specs.Scheduling.Timers.{due_at}
 use Rattle.rk_model.specs.Scheduling.Ticks.{fire}
-
-abbrev pub head_of : List Armed → Option Armed
-head_of [] = None
-head_of (timer ∷ timers) = Some timer
 
 -- the timers of a cluster that are due now
 abbrev pub due_now : Plain → ℕ → List Armed

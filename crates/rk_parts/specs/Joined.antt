@@ -7,10 +7,12 @@ use Rattle.rk_model.specs.declared.state.Armed.{Armed}
 use Rattle.rk_model.specs.declared.state.Thread.{Thread}
 use Rattle.rk_model.specs.Lists.{nth}
 use Rattle.rk_model.specs.Names.{Table, no_objects}
-use Rattle.rk_model.specs.State.{Plain, ClusterState, no_thread}
+use Rattle.rk_model.specs.State.{Plain, ClusterState, BarrierState, no_thread, no_barrier}
 use Rattle.rk_model.specs.Histories.{free_cluster}
 use Rattle.rk_model.specs.Directives.Objects.{has_begun}
 use Rattle.rk_line.specs.Places.{threads}
+use Rattle.rk_queue.specs.Queues.{threads as waiting}
+use Rattle.rk_signal.specs.Barriers.{Stored, group_of, stored_at}
 use Rattle.rk_parts.specs.declared.parts.ClusterPart.{ClusterPart}
 use Rattle.rk_parts.specs.declared.parts.GroupPart.{GroupPart}
 use Rattle.rk_parts.specs.declared.parts.AllParts.{AllParts}
@@ -58,9 +60,22 @@ clusters_by parts counts = listed (numbered counts parts) 0 (length counts)
 abbrev pub clusters_of : List ℕ → List ClusterPart → List ClusterState
 clusters_of counts parts = clusters_by parts counts
 
--- The state that these parts stand for, in the run of a scenario and with this table. So far the groups hold nothing of it.
+-- the barrier that a place of a group stands for
+abbrev pub barrier_of : Stored → BarrierState
+barrier_of stored = record { live = stored.live; automatic = stored.automatic; most = stored.most; arrivals = waiting stored.queue.arrivals }
+
+-- the barrier of an index, in the first of these groups that is its group; no barrier where its group isn't lent
+abbrev pub barrier_held : List GroupPart → ℕ → BarrierState
+barrier_held [] i = no_barrier
+barrier_held (group ∷ groups) i = if group.barriers.group == group_of i then barrier_of (stored_at group.barriers i) else barrier_held groups i
+
+-- the barriers of these groups, at their indices
+unfoldable pub barriers_of : List GroupPart → List BarrierState
+barriers_of groups = listed (barrier_held groups) 1 MOST_OBJECTS
+
+-- The state that these parts stand for, in the run of a scenario and with this table.
 abbrev pub joined : Scenario → Table → List ClusterPart → List GroupPart → Plain
-joined s table parts groups = record { scenario = s; present = present_of parts; clusters = clusters_of s.clusters parts; threads = threads_of parts; table = table }
+joined s table parts groups = record { scenario = s; present = present_of parts; clusters = clusters_of s.clusters parts; threads = threads_of parts; barriers = barriers_of groups; table = table }
 
 -- the state that all parts of a running kernel stand for
 abbrev pub plain_of : AllParts → Plain
@@ -77,6 +92,10 @@ lent parts = joined no_scenario no_objects parts []
 -- the thread of an index, as these parts have it
 abbrev pub thread_lent : List ClusterPart → ℕ → Thread
 thread_lent parts t = nth no_thread (threads_of parts) t
+
+-- the barrier of an index, as these groups have it; no barrier at 0 and above 64
+abbrev pub barrier_lent : List GroupPart → ℕ → BarrierState
+barrier_lent groups i = nth no_barrier (barriers_of groups) i
 
 -- the timers in the part in which a thread lives
 abbrev pub timers_lent : List ClusterPart → ℕ → List Armed

@@ -1,6 +1,7 @@
 pub mod Threads
 pub mod Joined
 pub mod Lent
+pub mod Groups
 pub mod ClusterRegisters
 pub mod Noted
 pub mod Seats

@@ -1,5 +1,5 @@
 -- All parts of a running kernel.
-use Rattle.std.specs.Prelude.{ℕ, ◌≡◌, ◌<◌, List, map, length, replicate}
+use Rattle.std.specs.Prelude.{ℕ, ◌≡◌, ◌<◌, List, [], ◌∷◌, map, length, replicate}
 use Rattle.rk_parts.specs.declared.parts.ClusterPart.{ClusterPart}
 use Rattle.rk_parts.specs.declared.parts.GroupPart.{GroupPart}
 use Rattle.rk_parts.specs.declared.parts.AllParts.{AllParts}
@@ -28,9 +28,14 @@ pub record AreOnTime (all : AllParts) : Type 0 where
   pub groups : ticks_in all.groups ≡ replicate 4 (present_of all.clusters)
   pub table : all.table.present ≡ present_of all.clusters
 
--- These are all parts of a running kernel: those of the clusters 0 to 3, laid as parts of its state and on time.
+-- the numbers of these groups
+abbrev pub numbers_in : List GroupPart → List ℕ
+numbers_in groups = map (λ (group : GroupPart). group.barriers.group) groups
+
+-- These are all parts of a running kernel: those of the clusters 0 to 3, laid as parts of its state, and those of the groups 0 to 3; and they are on time.
 pub record AreWhole (all : AllParts) : Type 0 where
   pub four : length all.clusters ≡ 4
   pub numbers : (c : ℕ) → c < 4 → (part_at all.clusters c).lined.number ≡ c
   pub laid : AreLaid all.scenario.clusters (layouts all.clusters)
+  pub groups : numbers_in all.groups ≡ 0 ∷ 1 ∷ 2 ∷ 3 ∷ []
   pub time : AreOnTime all

@@ -2,6 +2,7 @@
 #![tactic(auto)]
 
 pub mod arrival;
+pub mod groups;
 pub mod lent;
 pub mod parts;
 pub mod processors;

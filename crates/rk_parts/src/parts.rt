@@ -5,11 +5,9 @@
 use crate::table::Table;
 use crate::threads::Threads;
 use rk_cluster::{Cluster, Moves};
-use rk_model::limits::MOST_OBJECTS;
-use rk_model::{Armed, Bounded, Scenario};
-
-/// The armed timers of a cluster's threads, of which each has at most one.
-pub type Timers = Bounded<Armed, MOST_OBJECTS>;
+use rk_model::{Scenario, Wakes};
+use rk_signal::BarrierStore;
+use rk_wheel::Wheel;
 
 /// The part of a cluster. That of a cluster that the scenario lacks has no processors and no threads.
 #[derive(Debug, Drop)]
@@ -18,8 +16,8 @@ pub struct ClusterPart {
     pub present: u32,
     /// The ready queue of the cluster's eligible threads, and the thread that each processor has.
     pub lined: Cluster,
-    /// The armed timers, in order of arming.
-    pub timers: Timers,
+    /// The armed timers of the cluster's threads.
+    pub timers: Wheel,
     /// A place for each of the 64 threads; there is no thread at those of other homes.
     pub threads: Threads,
     /// Room for what settling does to the threads of the cluster.
@@ -29,10 +27,12 @@ pub struct ClusterPart {
 /// The part of a group of objects. An object of index `i` belongs to the group `(i - 1) % 4`.
 #[derive(Debug, Drop)]
 pub struct GroupPart {
-    /// The number of the group, from 0 to 3.
-    pub number: u8,
     /// The present tick.
     pub present: u32,
+    /// The barriers of the group.
+    pub barriers: BarrierStore,
+    /// The waits that the last call of a manager ended.
+    pub wakes: Wakes,
 }
 
 /// The part of the table: the names and the indices of the objects of all classes.

@@ -45,6 +45,8 @@ pub fn spins(clusters: &[ClusterPart], thread: ThreadIx) -> bool
     match thread_of(clusters, thread).wait {
         None => false,
         Some(Wait::ForTime) => false,
+        Some(Wait::ForEvents(_, _)) => false,
+        Some(Wait::AtBarrier(_)) => false,
     }
 }
 

@@ -1,5 +1,5 @@
 -- The words of a line of a body are those of the grammar exactly where the machine takes them.
-use Rattle.std.proofs.Common.{◌≡◌, ℕ, Bool, true, false, cond, List, [], ◌∷◌, Option, Some, None, Ok, refl, ap, subst, sym, ◌∙◌}
+use Rattle.std.proofs.Common.{◌≡◌, ℕ, Bool, true, false, cond, List, [], ◌∷◌, Option, Some, None, Ok, refl, ap, subst, sym, ◌∙◌, codes}
 use Rattle.std.specs.Option.{option_map}
 use Rattle.std.specs.Str.{bytes_eq}
 use Rattle.rk_model.specs.declared.forms.TheConstants.{FORMS}
@@ -9,7 +9,7 @@ use Rattle.rk_model.specs.declared.scenario.ScenarioWhy.TheVariants.{NotYetBuilt
 use Rattle.rk_model.specs.Text.Forms.{Operand, Value, Makes, Form, Row, form_of, word_in, word_of, form_from, form_in}
 use Rattle.rk_model.specs.Text.Scenarios.{Known, IsSpelled, Spell, IsOfForm, IsOp}
 use Rattle.rk_model.specs.Text.Reading.{operand_of, fits, made_of, form_line, line_like, op_line, is_end}
-use Rattle.rk_scenario.proofs.SpellingLemmas.{bind_ok, then_ok, ok_is, text_is, number_ok, number_is, var_ok, var_is, id_ok, id_is, goto_ok, goto_is, name_ok, name_is, name0_ok, name0_is, start_ok, start_is}
+use Rattle.rk_scenario.proofs.SpellingLemmas.{bind_ok, then_ok, ok_is, text_is, number_ok, number_is, var_ok, var_is, id_ok, id_is, goto_ok, goto_is, name_ok, name_is, name0_ok, name0_is, start_ok, start_is, either_ok, either_is, wish_ok, wish_is}
 
 -- ---- operands
 
@@ -23,6 +23,9 @@ operand_ok told Operand.Var word var e = var_ok word var e
 operand_ok told Operand.Id word id e = id_ok word id e
 operand_ok told Operand.B word body e = start_ok told word body e
 operand_ok told Operand.Earlier word n e = goto_ok told.earlier word n e
+operand_ok told Operand.Mode word all e = either_ok (codes "any") (codes "all") word all e
+operand_ok told Operand.Kind word automatic e = either_ok (codes "manual") (codes "auto") word automatic e
+operand_ok told Operand.Wish word wish e = wish_ok word wish e
 
 -- the machine takes each word that spells a value of an operand, as that value
 operand_is : (told : Known) (o : Operand) (word : List ℕ) (value : Value o) → IsSpelled told o word value → operand_of told o word ≡ Ok value
@@ -34,6 +37,9 @@ operand_is told Operand.Var word var h = var_is word var h
 operand_is told Operand.Id word id h = id_is word id h
 operand_is told Operand.B word body h = start_is told word body h
 operand_is told Operand.Earlier word n h = goto_is told.earlier word n h
+operand_is told Operand.Mode word all h = either_is (codes "any") (codes "all") word all refl h
+operand_is told Operand.Kind word automatic h = either_is (codes "manual") (codes "auto") word automatic refl h
+operand_is told Operand.Wish word wish h = wish_is word wish h
 
 -- ---- forms
 

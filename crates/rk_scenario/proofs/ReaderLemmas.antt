@@ -13,7 +13,7 @@ use Rattle.rk_model.specs.declared.scenario.ScenarioWhy.TheVariants.{Header, Not
 use Rattle.rk_model.specs.Text.Words.{is_body_name}
 use Rattle.rk_model.specs.Text.Scenarios.{AreDistinct, IsBody, IsInit, body_of, cpus_in}
 use Rattle.rk_model.specs.Text.Reading.{Phase, Start, Headed, Clustered, Timed, Limited, InBody, InInits, Draft, number_operand, known_at, op_line, init_operands, is_header, is_end, with_cluster, with_body, with_op, with_init, cluster_line, ticks_line, limit_line, body_line, inner_line, init_line, at_start, at_headed, at_clustered, at_timed, at_limited, at_inits, in_body, after_told}
-use Rattle.rk_scenario.proofs.SpellingLemmas.{bind_ok, then_ok, else_ok, either_ok, ok_is, text_is, number_ok, init_ok}
+use Rattle.rk_scenario.proofs.SpellingLemmas.{bind_ok, then_ok, else_ok, branch_ok, ok_is, text_is, number_ok, init_ok}
 use Rattle.rk_scenario.proofs.OperandLemmas.{op_ok}
 use Rattle.rk_scenario.proofs.NumberLemmas.{has_room, few_with, few_cpus_with}
 use Rattle.rk_scenario.proofs.BodyNameLemmas.{distinct_more}
@@ -169,7 +169,7 @@ ticks_sound b o (ticks ∷ more ∷ words) next e keeps = absurd cc
 clustered_sound : (b : Scenario) (o : Body) (words : List (List ℕ)) (next : Draft) → at_clustered (draft_at Clustered b o) words ≡ Ok next → Keeps Clustered b o → IsSound Clustered b o words next
 clustered_sound b o [] next e keeps = absurd cc
 clustered_sound b o (first ∷ operands) next e keeps =
-    elim (either_ok (bytes_eq first (codes "ticks")) (ticks_line (draft_at Clustered b o) operands) (at_headed (draft_at Clustered b o) (first ∷ operands)) next e) [
+    elim (branch_ok (bytes_eq first (codes "ticks")) (ticks_line (draft_at Clustered b o) operands) (at_headed (draft_at Clustered b o) (first ∷ operands)) next e) [
       | inl t ↦ rw (text_is first (codes "ticks") t.0) (ticks_sound b o operands next t.1 keeps)
       | inr t ↦
           let h = headed_sound Clustered b o (first ∷ operands) next t.1 keeps in
@@ -295,7 +295,7 @@ body_sound p b o (name ∷ more ∷ words) next e keeps = absurd cc
 limited_sound : (p : Phase) (b : Scenario) (o : Body) (words : List (List ℕ)) (next : Draft) → at_limited (draft_at p b o) words ≡ Ok next → Keeps Limited b o → IsSound Limited b o words next
 limited_sound p b o [] next e keeps = absurd cc
 limited_sound p b o (first ∷ operands) next e keeps =
-    elim (either_ok (bytes_eq first (codes "body")) (body_line (draft_at p b o) operands) (at_inits (draft_at p b o) (first ∷ operands)) next e) [
+    elim (branch_ok (bytes_eq first (codes "body")) (body_line (draft_at p b o) operands) (at_inits (draft_at p b o) (first ∷ operands)) next e) [
       | inl t ↦ rw (text_is first (codes "body") t.0) (body_sound p b o operands next t.1 keeps)
       | inr t ↦
           let last : Keeps InInits b o = record { alone = tt; clusters = keeps.clusters; cpus = keeps.cpus; bodies = keeps.bodies; distinct = keeps.distinct; fresh = tt; lines = keeps.lines; inits = keeps.inits } in
@@ -331,7 +331,7 @@ limit_sound b o (number ∷ more ∷ words) next e keeps = absurd cc
 timed_sound : (b : Scenario) (o : Body) (words : List (List ℕ)) (next : Draft) → at_timed (draft_at Timed b o) words ≡ Ok next → Keeps Timed b o → IsSound Timed b o words next
 timed_sound b o [] next e keeps = absurd cc
 timed_sound b o (first ∷ operands) next e keeps =
-    elim (either_ok (bytes_eq first (codes "limit")) (limit_line (draft_at Timed b o) operands) (at_limited (draft_at Timed b o) (first ∷ operands)) next e) [
+    elim (branch_ok (bytes_eq first (codes "limit")) (limit_line (draft_at Timed b o) operands) (at_limited (draft_at Timed b o) (first ∷ operands)) next e) [
       | inl t ↦ rw (text_is first (codes "limit") t.0) (limit_sound b o operands next t.1 keeps)
       | inr t ↦
           let limited : Keeps Limited b o = record { alone = tt; clusters = keeps.clusters; cpus = keeps.cpus; bodies = keeps.bodies; distinct = keeps.distinct; fresh = tt; lines = keeps.lines; inits = keeps.inits } in
@@ -394,7 +394,7 @@ inner_sound b o words next e keeps =
 
 body_lines_sound : (b : Scenario) (o : Body) (words : List (List ℕ)) (next : Draft) → in_body (draft_at InBody b o) words ≡ Ok next → Keeps InBody b o → IsSound InBody b o words next
 body_lines_sound b o words next e keeps =
-    elim (either_ok (is_end words) (Ok (with_body (draft_at InBody b o))) (inner_line (draft_at InBody b o) words) next e) [
+    elim (branch_ok (is_end words) (Ok (with_body (draft_at InBody b o))) (inner_line (draft_at InBody b o) words) next e) [
       | inl t ↦ subst (λ (x : Draft). IsSound InBody b o words x) (ok_is (with_body (draft_at InBody b o)) next t.1) (end_sound b o words t.0 keeps)
       | inr t ↦ inner_sound b o words next t.1 keeps
     ]

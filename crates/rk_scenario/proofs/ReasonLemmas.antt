@@ -12,7 +12,7 @@ use Rattle.rk_model.specs.declared.scenario.ScenarioWhy.TheVariants.{Header, Too
 use Rattle.rk_model.specs.Text.Forms.{Operand, Makes, Form, Row, form_of, form_in}
 use Rattle.rk_model.specs.Text.Words.{lines_of, words_of, is_plain, is_skipped, number_of, name_of, name0_of, var_of, is_body_name}
 use Rattle.rk_model.specs.Text.Scenarios.{Known, body_of, body_known, cpus_in, is_target}
-use Rattle.rk_model.specs.Text.Reading.{◌>>=◌, Phase, Start, Headed, Clustered, Timed, Limited, InBody, InInits, Draft, start, within, below, known, named, led, id_by, number_operand, cluster_operand, var_operand, fixed_operand, id_operand, goto_operand, name_operand, name0_operand, body_operand, start_operand, operand_of, fits, made_of, form_line, line_like, op_line, is_header, is_end, known_at, cluster_line, ticks_line, limit_line, body_line, inner_line, init_operands, init_line, at_headed, at_clustered, at_timed, at_limited, at_inits, in_body, after_told, after_words, after_line, Fault, Verdict, Faults, at_end, goes_on, verdict_from}
+use Rattle.rk_model.specs.Text.Reading.{◌>>=◌, Phase, Start, Headed, Clustered, Timed, Limited, InBody, InInits, Draft, start, within, below, known, named, led, id_by, number_operand, cluster_operand, var_operand, fixed_operand, id_operand, goto_operand, name_operand, name0_operand, body_operand, start_operand, either_operand, wish_operand, operand_of, fits, made_of, form_line, line_like, op_line, is_header, is_end, known_at, cluster_line, ticks_line, limit_line, body_line, inner_line, init_operands, init_line, at_headed, at_clustered, at_timed, at_limited, at_inits, in_body, after_told, after_words, after_line, Fault, Verdict, Faults, at_end, goes_on, verdict_from}
 use Rattle.rk_scenario.specs.TextLaws.{IsHeaderDue, FaultsHaveTheirReasons}
 use Rattle.rk_scenario.proofs.LeftLinesLemmas.{draft_at}
 use Rattle.rk_scenario.proofs.TextLemmas.{skipped_line, kept_line}
@@ -80,6 +80,14 @@ fixed_read : (word : List ℕ) → IsRead (fixed_operand word)
 unfolding fixed_operand
 fixed_read word = if_gives IsAny (bytes_eq word (codes "self")) _ _ tt (bind_gives IsAny _ _ (number_read 0 4294967295 word) (λ bits. tt))
 
+either_read : (first second word : List ℕ) → IsRead (either_operand first second word)
+unfolding either_operand
+either_read first second word = if_gives IsAny (bytes_eq word second) _ _ tt (test_read (bytes_eq word first) false)
+
+wish_read : (word : List ℕ) → IsRead (wish_operand word)
+unfolding wish_operand
+wish_read word = if_gives IsAny (bytes_eq word (codes "nowait")) _ _ tt (bind_gives IsAny _ _ (number_read 0 4294967295 word) (λ ticks. tt))
+
 operand_read : (told : Known) (o : Operand) (word : List ℕ) → IsRead (operand_of told o word)
 unfolding operand_of name_operand name0_operand var_operand id_operand start_operand goto_operand
 operand_read told (Operand.Number least most) word = number_read least most word
@@ -89,6 +97,9 @@ operand_read told Operand.Var word = known_read (var_of word)
 operand_read told Operand.Id word = id_by_read (var_of word) (fixed_operand word) (fixed_read word)
 operand_read told Operand.B word = known_read (body_known told.bodies told.own word)
 operand_read told Operand.Earlier word = led_read told.earlier (number_of word)
+operand_read told Operand.Mode word = either_read (codes "any") (codes "all") word
+operand_read told Operand.Kind word = either_read (codes "manual") (codes "auto") word
+operand_read told Operand.Wish word = wish_read word
 
 -- ---- lines of a body
 

@@ -1,5 +1,5 @@
 -- The words of operands and of init lines are those of the grammar exactly where the machine takes them.
-use Rattle.std.proofs.Common.{◌≡◌, ℕ, ◌≤◌, ◌<◌, Bool, true, false, eqb, cond, ◌⊎◌, inl, inr, List, [], ◌∷◌, length, Option, Some, None, Result, Ok, Err, refl, ap, subst, arith, codes, ◌&&◌}
+use Rattle.std.proofs.Common.{◌≡◌, ℕ, ◌≤◌, ◌<◌, Bool, true, false, eqb, cond, ◌⊎◌, inl, inr, List, [], ◌∷◌, length, Option, Some, None, Result, Ok, Err, refl, ap, subst, sym, ◌∙◌, arith, codes, ◌&&◌}
 use Rattle.std.specs.Prelude.{nat_le, nat_lt}
 use Rattle.std.specs.Str.{bytes_eq}
 use Rattle.std.proofs.lemmas.Bool.{and_parts, eqb-true, leb-true, le-leb, ltb-true, lt-ltb, false_from_ne_true}
@@ -8,14 +8,16 @@ use Rattle.rk_model.specs.declared.numbers.Name.{Name as NameOf}
 use Rattle.rk_model.specs.declared.scenario.Op.{Op}
 use Rattle.rk_model.specs.declared.scenario.Target.{Target}
 use Rattle.rk_model.specs.declared.scenario.Target.TheVariants.{Var, Own, Given}
+use Rattle.rk_model.specs.declared.scenario.Wish.{Wish}
+use Rattle.rk_model.specs.declared.scenario.Wish.TheVariants.{NoWait, Limit}
 use Rattle.rk_model.specs.declared.scenario.Body.{Body}
 use Rattle.rk_model.specs.declared.scenario.Init.{Init}
 use Rattle.rk_model.specs.declared.scenario.Scenario.{Scenario}
 use Rattle.rk_model.specs.declared.scenario.ScenarioWhy.{ScenarioWhy}
 use Rattle.rk_model.specs.declared.scenario.ScenarioWhy.TheVariants.{NotYetBuilt}
 use Rattle.rk_model.specs.Text.Words.{number_of, decimal_of, name_of, name0_of, var_of}
-use Rattle.rk_model.specs.Text.Scenarios.{Known, IsNumber, IsId, IsInit, IsEarlier, body_of, body_known, is_target}
-use Rattle.rk_model.specs.Text.Reading.{◌>>=◌, within, below, known, named, led, id_by, number_operand, cluster_operand, var_operand, fixed_operand, id_operand, goto_operand, name_operand, name0_operand, body_operand, start_operand, init_operands}
+use Rattle.rk_model.specs.Text.Scenarios.{Known, IsNumber, IsId, IsEither, IsWish, IsInit, IsEarlier, body_of, body_known, is_target}
+use Rattle.rk_model.specs.Text.Reading.{◌>>=◌, within, below, known, named, led, id_by, number_operand, cluster_operand, var_operand, fixed_operand, id_operand, goto_operand, name_operand, name0_operand, body_operand, start_operand, either_operand, wish_operand, init_operands}
 
 -- ---- steps that are taken
 
@@ -31,9 +33,9 @@ pub else_ok : {A : Type 0} (b : Bool) (why : ScenarioWhy) (r : Result A Scenario
 else_ok true why r y e = absurd cc
 else_ok false why r y e = (refl, e)
 
-pub either_ok : {A : Type 0} (b : Bool) (r t : Result A ScenarioWhy) (y : A) → cond b r t ≡ Ok y → ((b ≡ true) × (r ≡ Ok y)) ⊎ ((b ≡ false) × (t ≡ Ok y))
-either_ok true r t y e = inl (refl, e)
-either_ok false r t y e = inr (refl, e)
+pub branch_ok : {A : Type 0} (b : Bool) (r t : Result A ScenarioWhy) (y : A) → cond b r t ≡ Ok y → ((b ≡ true) × (r ≡ Ok y)) ⊎ ((b ≡ false) × (t ≡ Ok y))
+branch_ok true r t y e = inl (refl, e)
+branch_ok false r t y e = inr (refl, e)
 
 abbrev done : {A : Type 0} → A → Result A ScenarioWhy
 done x = Ok x
@@ -86,18 +88,21 @@ cluster_is : (count : ℕ) (word : List ℕ) (n : ℕ) → number_of word ≡ So
 unfolding cluster_operand
 cluster_is count word n e lt = let test = lt-ltb n count lt in rw (e, test) refl
 
-self_no_number : (bits : ℕ) → number_of (codes "self") ≡ Some bits → ⊥
-unfolding number_of decimal_of
-self_no_number bits e = cc
+-- a word that spells a number isn't one that spells none
+number_differs : (other word : List ℕ) (bits : ℕ) → number_of other ≡ None → number_of word ≡ Some bits → bytes_eq word other ≡ false
+number_differs other word bits none e = false_from_ne_true (bytes_eq word other) (λ same. some_not_none bits (sym (subst (λ (w : List ℕ). number_of w ≡ Some bits) (text_is word other same) e) ∙ none))
+  where
+    some_not_none : (n : ℕ) → ◌≡◌ {A = Option ℕ} (Some n) None → ⊥
+    some_not_none n e = cc
 
--- a word that spells a number isn't `self`
-number_not_self : (word : List ℕ) (bits : ℕ) → number_of word ≡ Some bits → bytes_eq word (codes "self") ≡ false
-number_not_self word bits e = false_from_ne_true (bytes_eq word (codes "self")) (λ same. self_no_number bits (subst (λ (w : List ℕ). number_of w ≡ Some bits) (text_is word (codes "self") same) e))
+self_no_number : number_of (codes "self") ≡ None
+unfolding number_of decimal_of
+self_no_number = refl
 
 fixed_ok : (word : List ℕ) (id : Target) → fixed_operand word ≡ Ok id → IsId word id
 unfolding fixed_operand
 fixed_ok word id e =
-    elim (either_ok (bytes_eq word (codes "self")) (done Own) (number_operand 0 4294967295 word >>= (λ bits. Ok (Given bits))) id e) [
+    elim (branch_ok (bytes_eq word (codes "self")) (done Own) (number_operand 0 4294967295 word >>= (λ bits. Ok (Given bits))) id e) [
       | inl h ↦ subst (λ (i : Target). IsId word i) (ok_is Own id h.1) (text_is word (codes "self") h.0)
       | inr h ↦
           let b = bind_ok (number_operand 0 4294967295 word) (λ bits. Ok (Given bits)) id h.1 in
@@ -136,7 +141,7 @@ pub id_is : (word : List ℕ) (id : Target) → IsId word id → id_operand word
 unfolding id_operand fixed_operand var_of
 id_is word (Var var) h = rw h refl
 id_is word Own h = rw h refl
-id_is word (Given bits) h = rw (number_no_var word bits h.value, number_not_self word bits h.value, number_is 0 4294967295 word bits h) refl
+id_is word (Given bits) h = rw (number_no_var word bits h.value, number_differs (codes "self") word bits self_no_number h.value, number_is 0 4294967295 word bits h) refl
 
 led_ok : (earlier : List Op) (o : Option ℕ) (n : ℕ) → led earlier o ≡ Ok n → (o ≡ Some n) × (is_target earlier n ≡ true)
 led_ok earlier None n e = absurd cc
@@ -184,6 +189,42 @@ var_ok word n e = known_ok (var_of word) n e
 pub var_is : (word : List ℕ) (n : ℕ) → var_of word ≡ Some n → var_operand word ≡ Ok n
 unfolding var_operand
 var_is word n e = rw e refl
+
+-- what the machine takes as one of two words is it
+pub either_ok : (first second word : List ℕ) (b : Bool) → either_operand first second word ≡ Ok b → IsEither word first second b
+unfolding either_operand
+either_ok first second word b e =
+    elim (branch_ok (bytes_eq word second) (done true) (cond (bytes_eq word first) (done false) (Err NotYetBuilt)) b e) [
+      | inl h ↦ subst (λ (x : Bool). IsEither word first second x) (ok_is true b h.1) (text_is word second h.0)
+      | inr h ↦
+          let t = then_ok (bytes_eq word first) (done false) NotYetBuilt b h.1 in
+          subst (λ (x : Bool). IsEither word first second x) (ok_is false b t.1) (text_is word first t.0)
+    ]
+
+-- each of two different words is taken by the machine
+pub either_is : (first second word : List ℕ) (b : Bool) → bytes_eq first second ≡ false → IsEither word first second b → either_operand first second word ≡ Ok b
+unfolding either_operand
+either_is first second word true differ h = rw (h, text_same second) refl
+either_is first second word false differ h = rw (h, differ, text_same first) refl
+
+nowait_no_number : number_of (codes "nowait") ≡ None
+unfolding number_of decimal_of
+nowait_no_number = refl
+
+pub wish_ok : (word : List ℕ) (wish : Wish) → wish_operand word ≡ Ok wish → IsWish word wish
+unfolding wish_operand
+wish_ok word wish e =
+    elim (branch_ok (bytes_eq word (codes "nowait")) (done NoWait) (number_operand 0 4294967295 word >>= (λ ticks. Ok (Limit ticks))) wish e) [
+      | inl h ↦ subst (λ (w : Wish). IsWish word w) (ok_is NoWait wish h.1) (text_is word (codes "nowait") h.0)
+      | inr h ↦
+          let b = bind_ok (number_operand 0 4294967295 word) (λ ticks. Ok (Limit ticks)) wish h.1 in
+          subst (λ (w : Wish). IsWish word w) (ok_is (Limit b.0) wish b.2) (number_ok 0 4294967295 word b.0 b.1)
+    ]
+
+pub wish_is : (word : List ℕ) (wish : Wish) → IsWish word wish → wish_operand word ≡ Ok wish
+unfolding wish_operand
+wish_is word NoWait h = rw h refl
+wish_is word (Limit ticks) h = rw (number_differs (codes "nowait") word ticks nowait_no_number h.value, number_is 0 4294967295 word ticks h) refl
 
 pub start_ok : (told : Known) (word : List ℕ) (n : ℕ) → start_operand told word ≡ Ok n → body_known told.bodies told.own word ≡ Some n
 unfolding start_operand

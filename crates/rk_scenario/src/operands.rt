@@ -1,11 +1,11 @@
-ghost use Rattle.std.specs.Prelude.{◌≡◌, ◌<◌, ◌≤◌, ◌+◌, ◌*◌, ◌^◌, length, min, slice_get, IfSome, IfOk};
+ghost use Rattle.std.specs.Prelude.{◌≡◌, ◌<◌, ◌≤◌, ◌+◌, ◌*◌, ◌^◌, length, min, slice_get, codes, IfSome, IfOk};
 ghost use Rattle.std.specs.Option.{option_map};
 ghost use Rattle.std.specs.List.{list_all};
 ghost use Rattle.rk_model.specs.Text.Words.{digit_value, digit_below, value_from, decimal_of, number_of, name_of, var_of, is_name_byte, is_lower, is_body_byte, is_body_name};
 ghost use Rattle.rk_model.specs.Text.Scenarios.{body_of, body_known, body_from, is_named, may_be_target, is_target};
-ghost use Rattle.rk_model.specs.Text.Reading.{known_at, number_operand, cluster_operand, var_operand, fixed_operand, id_operand, goto_operand, name_operand, name0_operand, body_operand, start_operand};
+ghost use Rattle.rk_model.specs.Text.Reading.{known_at, number_operand, cluster_operand, var_operand, fixed_operand, id_operand, goto_operand, name_operand, name0_operand, body_operand, start_operand, either_operand, wish_operand};
 
-use rk_model::{Body, Name, Op, Scenario, ScenarioWhy, Target};
+use rk_model::{Body, Name, Op, Scenario, ScenarioWhy, Target, Wish};
 
 /// Greater than every number that a line may have. Numbers of any length are read, and greater
 /// ones are given as this.
@@ -140,6 +140,47 @@ fn fixed_operand(word: &[u8]) -> Result<Target, ScenarioWhy>
     } else {
         let bits = number_operand(0, u32::MAX, word)?;
         Ok(Target::Given(bits))
+    }
+}
+
+/// The second of two words, as true, or the first.
+#[tactic(auto, unfolding(rk_model::specs::Text::Reading::either_operand))]
+fn either_operand(first: &[u8], second: &[u8], word: &[u8]) -> Result<bool, ScenarioWhy>
+    ensures { result ≡ either_operand first.now second.now word.now }
+{
+    if word == second {
+        Ok(true)
+    } else if word == first {
+        Ok(false)
+    } else {
+        Err(ScenarioWhy::NotYetBuilt)
+    }
+}
+
+/// Which events of a set: `all`, as true, or `any`.
+pub(crate) fn mode_operand(word: &[u8]) -> Result<bool, ScenarioWhy>
+    ensures { result ≡ either_operand (codes "any") (codes "all") word.now }
+{
+    either_operand(b"any".as_slice(), b"all".as_slice(), word)
+}
+
+/// Which kind of barrier: `auto`, as true, or `manual`.
+pub(crate) fn kind_operand(word: &[u8]) -> Result<bool, ScenarioWhy>
+    ensures { result ≡ either_operand (codes "manual") (codes "auto") word.now }
+{
+    either_operand(b"manual".as_slice(), b"auto".as_slice(), word)
+}
+
+/// A WISH: `nowait`, or a number of ticks.
+#[tactic(auto, unfolding(rk_model::specs::Text::Reading::wish_operand))]
+pub(crate) fn wish_operand(word: &[u8]) -> Result<Wish, ScenarioWhy>
+    ensures { result ≡ wish_operand word.now }
+{
+    if word == b"nowait".as_slice() {
+        Ok(Wish::NoWait)
+    } else {
+        let ticks = any_operand(word)?;
+        Ok(Wish::Limit(ticks))
     }
 }
 

@@ -3,8 +3,8 @@ ghost use Rattle.rk_model.specs.Text.Forms.{form_of};
 ghost use Rattle.rk_model.specs.Text.Reading.{known_at, op_line, line_like, form_line};
 
 use crate::operands::{
-    any_operand, goto_operand, id_operand, name_operand, name0_operand, number_operand,
-    start_operand, var_operand,
+    any_operand, goto_operand, id_operand, kind_operand, mode_operand, name_operand, name0_operand,
+    number_operand, start_operand, var_operand, wish_operand,
 };
 use crate::words::Word;
 use rk_model::limits::MOST_TICKS;
@@ -50,6 +50,15 @@ fn read_form(
             b.as_slice(),
             c.as_slice(),
         ),
+        [a, b, c, d] => read_four(
+            scenario,
+            body,
+            form,
+            a.as_slice(),
+            b.as_slice(),
+            c.as_slice(),
+            d.as_slice(),
+        ),
         _ => Err(ScenarioWhy::NotYetBuilt),
     }
 }
@@ -68,6 +77,7 @@ fn read_one(scenario: &Scenario, body: &Body, form: Op, a: &[u8]) -> Result<Op, 
         Op::TaskResume(_) => Ok(Op::TaskResume(id_operand(a)?)),
         Op::TaskDelete(_) => Ok(Op::TaskDelete(id_operand(a)?)),
         Op::TaskWakeAfter(_) => Ok(Op::TaskWakeAfter(any_operand(a)?)),
+        Op::BarrierDelete(_) => Ok(Op::BarrierDelete(id_operand(a)?)),
         _ => Err(ScenarioWhy::NotYetBuilt),
     }
 }
@@ -88,6 +98,10 @@ fn read_two(
     match form {
         Op::TaskIdent(_, _) => Ok(Op::TaskIdent(name_operand(a)?, var_operand(b)?)),
         Op::TaskStart(_, _) => Ok(Op::TaskStart(id_operand(a)?, start_operand(scenario, body, b)?)),
+        Op::EventSend(_, _) => Ok(Op::EventSend(id_operand(a)?, any_operand(b)?)),
+        Op::BarrierIdent(_, _) => Ok(Op::BarrierIdent(name_operand(a)?, var_operand(b)?)),
+        Op::BarrierWait(_, _) => Ok(Op::BarrierWait(id_operand(a)?, any_operand(b)?)),
+        Op::BarrierRelease(_, _) => Ok(Op::BarrierRelease(id_operand(a)?, var_operand(b)?)),
         _ => Err(ScenarioWhy::NotYetBuilt),
     }
 }
@@ -116,6 +130,38 @@ fn read_three(
             id_operand(a)?,
             any_operand(b)?,
             var_operand(c)?,
+        )),
+        _ => Err(ScenarioWhy::NotYetBuilt),
+    }
+}
+
+/// What a line of the form of this one with four operands stands for.
+#[tactic(auto, unfolding(rk_model::specs::Text::Reading::form_line, rk_model::specs::Text::Reading::operand_of))]
+fn read_four(
+    scenario: &Scenario,
+    body: &Body,
+    form: Op,
+    a: &[u8],
+    b: &[u8],
+    c: &[u8],
+    d: &[u8],
+) -> Result<Op, ScenarioWhy>
+    requires bodies { length scenario.now.bodies ≤ 255 }
+    requires lines { length body.now.lines ≤ 1000 }
+    ensures { result ≡ form_line (known_at scenario.now body.now) (form_of form) (a.now ∷ b.now ∷ c.now ∷ d.now ∷ []) }
+{
+    match form {
+        Op::EventReceive(_, _, _, _) => Ok(Op::EventReceive(
+            any_operand(a)?,
+            mode_operand(b)?,
+            wish_operand(c)?,
+            var_operand(d)?,
+        )),
+        Op::BarrierCreate(_, _, _, _) => Ok(Op::BarrierCreate(
+            name0_operand(a)?,
+            kind_operand(b)?,
+            any_operand(c)?,
+            var_operand(d)?,
         )),
         _ => Err(ScenarioWhy::NotYetBuilt),
     }

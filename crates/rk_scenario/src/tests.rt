@@ -1,6 +1,6 @@
 use crate::ScenarioError;
 use crate::read::read_scenario;
-use rk_model::{Init, Name, Op, Prio, ScenarioWhy, Target};
+use rk_model::{Init, Name, Op, Prio, ScenarioWhy, Target, Wish};
 use std::alloc::Global;
 use std::test::Fail;
 
@@ -116,7 +116,7 @@ fn refuses_bodies_and_inits(rt: HostRuntime) -> Result<(), Fail> {
 }
 
 #[test]
-fn refuses_lines_of_tasks(rt: HostRuntime) -> Result<(), Fail> {
+fn refuses_lines_of_managers(rt: HostRuntime) -> Result<(), Fail> {
     let rows = [
         "task.create AAAA 1\n",
         "task.create AAAA 1 v0 v1\n",
@@ -146,6 +146,35 @@ fn refuses_lines_of_tasks(rt: HostRuntime) -> Result<(), Fail> {
         "task.delete\n",
         "task.delete v8\n",
         "task.delete v0 v1\n",
+        "event.send v0\n",
+        "event.send v8 1\n",
+        "event.send v0 4294967296\n",
+        "event.receive 1 any nowait\n",
+        "event.receive 1 any nowait v0 v1\n",
+        "event.receive 1 some 0 v0\n",
+        "event.receive 1 any never v0\n",
+        "event.receive 1 any 4294967296 v0\n",
+        "event.receive 1 all nowait v8\n",
+        "barrier.create AAAA auto 1\n",
+        "barrier.create AAAA auto 1 v0 v1\n",
+        "barrier.create AAAAA auto 1 v0\n",
+        "barrier.create AAAA automatic 1 v0\n",
+        "barrier.create AAAA any 1 v0\n",
+        "barrier.create AAAA manual 4294967296 v0\n",
+        "barrier.create AAAA manual 0 v8\n",
+        "barrier.ident - v0\n",
+        "barrier.ident AAAA v8\n",
+        "barrier.ident AAAA\n",
+        "barrier.wait v0\n",
+        "barrier.wait v8 1\n",
+        "barrier.wait v0 nowait\n",
+        "barrier.wait v0 4294967296\n",
+        "barrier.release v0\n",
+        "barrier.release v8 v0\n",
+        "barrier.release v0 1\n",
+        "barrier.delete\n",
+        "barrier.delete v8\n",
+        "barrier.delete v0 v1\n",
     ];
     let open = repeated(rt.alloc(), FRONT, "body b\n", 1, "")?;
     let tail = "end\nbody c\nend\n";
@@ -240,6 +269,42 @@ fn reads_lines_of_bodies(rt: HostRuntime) -> Result<(), Fail> {
             "task.wake_after 4294967295\n",
             Op::TaskWakeAfter(4_294_967_295),
         ),
+        ("event.send self 0\n", Op::EventSend(Target::Own, 0)),
+        (
+            "event.send v2 0xffffffff\n",
+            Op::EventSend(Target::Var(2), 4_294_967_295),
+        ),
+        (
+            "event.receive 5 any nowait v0\n",
+            Op::EventReceive(5, false, Wish::NoWait, 0),
+        ),
+        (
+            "event.receive 4294967295 all 0 v7\n",
+            Op::EventReceive(4_294_967_295, true, Wish::Limit(0), 7),
+        ),
+        (
+            "event.receive 0 all 0xffffffff v1\n",
+            Op::EventReceive(0, true, Wish::Limit(4_294_967_295), 1),
+        ),
+        (
+            "barrier.create T_1a auto 4294967295 v0\n",
+            Op::BarrierCreate(name, true, 4_294_967_295, 0),
+        ),
+        (
+            "barrier.create - manual 0 v7\n",
+            Op::BarrierCreate(Name { bits: 0 }, false, 0, 7),
+        ),
+        ("barrier.ident T_1a v4\n", Op::BarrierIdent(name, 4)),
+        ("barrier.wait v1 0\n", Op::BarrierWait(Target::Var(1), 0)),
+        (
+            "barrier.wait 0x22010001 0xffffffff\n",
+            Op::BarrierWait(Target::Given(0x2201_0001), 4_294_967_295),
+        ),
+        (
+            "barrier.release v1 v2\n",
+            Op::BarrierRelease(Target::Var(1), 2),
+        ),
+        ("barrier.delete v3\n", Op::BarrierDelete(Target::Var(3))),
     ];
     let open = repeated(rt.alloc(), FRONT, "body a\nend\nbody b\nwork 1\n", 1, "")?;
     for (line, op) in rows {

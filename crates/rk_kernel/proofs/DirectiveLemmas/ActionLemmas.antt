@@ -2,7 +2,7 @@
 use Rattle.std.proofs.Common.{◌≡◌, ℕ, ◌≤◌, true, false, Option, None, Some, IsSome, arith, refl, sym, ◌∙◌, ap, subst}
 use Rattle.std.proofs.lemmas.Bool.{false≢true}
 use Rattle.rk_model.specs.declared.scenario.Op.{Op}
-use Rattle.rk_model.specs.declared.scenario.Op.TheVariants.{TaskCreate, TaskIdent, TaskStart, TaskSuspend, TaskResume, TaskSetPriority, TaskDelete, TaskWakeAfter}
+use Rattle.rk_model.specs.declared.scenario.Op.TheVariants.{TaskCreate, TaskIdent, TaskStart, TaskSuspend, TaskResume, TaskSetPriority, TaskDelete, TaskWakeAfter, EventSend, EventReceive, BarrierCreate, BarrierIdent, BarrierWait, BarrierRelease, BarrierDelete}
 use Rattle.rk_model.specs.declared.entry.Answer.{Answer}
 use Rattle.rk_model.specs.declared.entry.Reply.{Reply}
 use Rattle.rk_model.specs.declared.state.Thread.{Thread}
@@ -12,12 +12,14 @@ use Rattle.rk_model.specs.Directives.Outcomes.{Outcome, Refused, Done, Waiting, 
 use Rattle.rk_model.specs.Steps.{directive, back, action_on, action}
 use Rattle.rk_kernel.specs.Does.{goes_on_after}
 use Rattle.rk_kernel.specs.Calls.{IsActing, IsCaller}
-use Rattle.rk_kernel.specs.Sound.{IsGentle, is_in_call}
+use Rattle.rk_kernel.specs.Sound.{IsGentle, but_none, is_in_call}
 use Rattle.rk_kernel.proofs.ThreadBoundsLemmas.{bounds_at, bounds_in, line_in}
 use Rattle.rk_model.specs.Limits.{AreRunnable}
 use Rattle.rk_kernel.proofs.GentleChangeLemmas.{gentle_same, gentle_put, gentle_go_on, Stays}
 use Rattle.rk_kernel.proofs.OutcomeLemmas.{IsFair, fair_changed, fair_after}
 use Rattle.rk_model.proofs.IndexLemmas.{nth-with_same}
+use Rattle.rk_kernel.proofs.DirectiveLemmas.BarriersLemmas.{barrier_create_fair, barrier_ident_fair, barrier_wait_fair, barrier_release_fair, barrier_delete_fair}
+use Rattle.rk_kernel.proofs.DirectiveLemmas.EventsLemmas.{event_send_fair, event_receive_fair}
 use Rattle.rk_kernel.proofs.DirectiveLemmas.TasksLemmas.{task_create_fair, task_ident_fair, task_start_fair, task_suspend_fair, task_resume_fair, task_set_priority_fair, task_delete_fair, task_exit_fair, task_wake_after_fair}
 
 -- each directive is fair
@@ -30,6 +32,13 @@ line_fair k t (TaskResume id) caller = task_resume_fair k t id caller
 line_fair k t (TaskSetPriority id prio var) caller = task_set_priority_fair k t id prio caller
 line_fair k t (TaskDelete id) caller = task_delete_fair k t id caller
 line_fair k t (TaskWakeAfter n) caller = task_wake_after_fair k t n caller
+line_fair k t (EventSend id set) caller = event_send_fair k t id set caller
+line_fair k t (EventReceive set all wish var) caller = event_receive_fair k t set all wish caller
+line_fair k t (BarrierCreate name automatic most var) caller = barrier_create_fair k t name.bits automatic most caller
+line_fair k t (BarrierIdent name var) caller = barrier_ident_fair k t name.bits caller
+line_fair k t (BarrierWait id ticks) caller = barrier_wait_fair k t id ticks caller
+line_fair k t (BarrierRelease id var) caller = barrier_release_fair k t id caller
+line_fair k t (BarrierDelete id) caller = barrier_delete_fair k t id caller
 line_fair k t _ caller = task_exit_fair k t caller.acts caller.returns_not
 
 -- what an action owes to the state that settles: one that goes on lives, and the change is gentle before the thread goes on, and after
@@ -61,7 +70,7 @@ back_done k t reply acts returns =
     let free : is_in_call thread.wait thread.finished ≡ false = rw acts.waits_not refl in
     let begun : has_begun thread.life ≡ true = ap has_begun acts.started in
     let low : thread.line ≤ 1000 = b.calling (rw (acts.waits_not, returns) refl) in
-    let gentle = gentle_put k k t thread (gentle_same k acts.sound) refl (λ w. w) begun begun (record { home = b.home; line = b.line; working = b.working; calling = λ w. absurd (false≢true (rw free at w)); apart = λ _. free; acts = b.acts; idle = λ _. free; computed = b.computed }) in
+    let gentle = gentle_put k k but_none t thread (gentle_same k acts.sound) refl refl begun begun (record { home = b.home; line = b.line; working = b.working; calling = λ w. absurd (false≢true (rw free at w)); apart = λ _. free; acts = b.acts; idle = λ _. free; computed = b.computed }) in
     let here = nth-with_same no_thread thread k.threads t acts.low (omega (arith, acts.high, acts.sound.places)) in
     let stays : Stays k (put_thread k t thread) t = record { gentle = gentle; lives = rw here begun; line = rw here low; free = rw here free } in
     record { changed = gentle; after = gentle_go_on k (put_thread k t thread) t reply.out acts.sound stays; lives = λ goes. stays.lives }
@@ -88,7 +97,7 @@ followed k t o answer next after told is ends = ends ∙ ap (λ (a : Answer). co
 
 -- after an action, and before what follows it, no thread is behind its 1,001st line
 pub line_after : (k next : Plain) (t : ℕ) → IsActing k t → next ≡ changed k (action k t) → (thread_at next t).line ≤ 1001
-line_after k next t acts is = subst (λ (n : Plain). (thread_at n t).line ≤ 1001) (sym is) (bounds_in k (changed k (action k t)) t acts.sound (action_done k t acts).changed).line
+line_after k next t acts is = subst (λ (n : Plain). (thread_at n t).line ≤ 1001) (sym is) (bounds_in k (changed k (action k t)) but_none t acts.sound (action_done k t acts).changed).line
 
 -- one that goes on lives
 pub lives_after : (k next : Plain) (t : ℕ) (answer : Answer) → IsActing k t → answer ≡ answer_of (action k t) → next ≡ changed k (action k t) → goes_on_after answer ≡ true → has_begun (thread_at next t).life ≡ true

@@ -1,6 +1,6 @@
-//! What the outcomes of directives share: how a caller goes on, and how a wait begins and ends.
+//! What the outcomes of directives share: their answers, and how a caller goes on.
 
-ghost use Rattle.std.specs.Prelude.{◌≡◌, ◌≤◌, ◌<◌, length, None, Some, true};
+ghost use Rattle.std.specs.Prelude.{◌≡◌, ◌≤◌, None, Some, true};
 ghost use Rattle.std.specs.List.{slice_index_or};
 ghost use Rattle.rk_model.specs.declared.entry.Answer.TheVariants.{Done};
 ghost use Rattle.rk_model.specs.declared.status.Status.TheVariants.{Successful};
@@ -8,17 +8,15 @@ ghost use Rattle.rk_model.specs.Limits.{AreRunnable};
 ghost use Rattle.rk_model.specs.declared.scenario.Scenario.{Scenario as ScenarioView};
 ghost use Rattle.rk_model.specs.Directives.Objects.{has_begun};
 ghost use Rattle.rk_model.specs.Directives.Lines.{result_var};
-ghost use Rattle.rk_model.specs.Directives.Outcomes.{begin_limited, end_wait, stored as stored_in, finished, concluded, status_of, out_of, last_of};
+ghost use Rattle.rk_model.specs.Directives.Outcomes.{stored as stored_in, finished, concluded, status_of, out_of, last_of};
 ghost use Rattle.rk_kernel.specs.Does.{Becomes, goes_on_after};
-ghost use Rattle.rk_parts.specs.Joined.{thread_lent, timers_lent};
+ghost use Rattle.rk_parts.specs.Joined.{thread_lent};
 ghost use Rattle.rk_parts.specs.Lent.{Puts};
 
-use rk_model::{Answer, Armer, Op, Reply, Scenario, Status, Thread, ThreadIx, Wait};
+use rk_model::{Answer, Op, Reply, Scenario, Status, Thread, ThreadIx};
 use rk_parts::arrival::arrive;
-use rk_parts::lent::{put, renew, thread_of};
+use rk_parts::lent::{renew, thread_of};
 use rk_parts::parts::ClusterPart;
-use rk_parts::ticks::present;
-use rk_parts::timers::{arm, cancel};
 
 /// The answer of a directive that is done with an out number.
 pub(crate) fn done(out: u32) -> Answer
@@ -35,6 +33,10 @@ fn result_var(op: Option<Op>) -> Option<u8>
         Some(Op::TaskCreate(_, _, var)) => Some(var),
         Some(Op::TaskIdent(_, var)) => Some(var),
         Some(Op::TaskSetPriority(_, _, var)) => Some(var),
+        Some(Op::EventReceive(_, _, _, var)) => Some(var),
+        Some(Op::BarrierCreate(_, _, _, var)) => Some(var),
+        Some(Op::BarrierIdent(_, var)) => Some(var),
+        Some(Op::BarrierRelease(_, var)) => Some(var),
         _ => None,
     }
 }
@@ -79,7 +81,7 @@ fn go_on(scenario: &Scenario, clusters: &mut [ClusterPart], caller: ThreadIx, ou
 }
 
 /// A reply without an out number.
-fn bare(status: Status) -> Reply
+pub(crate) fn bare(status: Status) -> Reply
     ensures status { result.status ≡ status }
     ensures out { result.out ≡ 0 }
 {
@@ -126,47 +128,4 @@ pub(crate) fn conclude(
         Answer::Waiting => bare(Status::Waits),
         Answer::Gone(status) => bare(*status),
     }
-}
-
-/// Lets the caller begin to wait.
-fn begin_wait(clusters: &mut [ClusterPart], caller: ThreadIx, wait: Wait)
-    requires { has_begun (thread_lent clusters.old caller).life ≡ true }
-    ensures { Puts clusters.old caller (record (thread_lent clusters.old caller) { wait = Some wait }) clusters.new }
-{
-    let thread = thread_of(clusters, caller);
-    let waiting = Thread {
-        wait: Some(wait),
-        ..thread
-    };
-    put(clusters, caller, waiting);
-}
-
-/// Lets the caller begin to wait with a limit of so many ticks, or with 0 without a limit.
-pub(crate) fn begin_limited(clusters: &mut [ClusterPart], caller: ThreadIx, wait: Wait, ticks: u32)
-    requires lives { has_begun (thread_lent clusters.old caller).life ≡ true }
-    requires room { length (timers_lent clusters.old caller) < 64 }
-    ensures { (s : ScenarioView) → Becomes s (λ k. begin_limited k caller wait ticks) clusters.old clusters.new }
-{
-    if ticks == 0 {
-        begin_wait(clusters, caller, wait);
-    } else {
-        let due = u64::from(present(clusters)) + u64::from(ticks);
-        arm(clusters, caller, Armer::Thread(caller), due);
-        begin_wait(clusters, caller, wait);
-    }
-}
-
-/// Ends the wait of a thread with a reply, and cancels its timer.
-pub(crate) fn end_wait(clusters: &mut [ClusterPart], thread: ThreadIx, reply: Reply)
-    requires { has_begun (thread_lent clusters.old thread).life ≡ true }
-    ensures { (s : ScenarioView) → Becomes s (λ k. end_wait k thread reply) clusters.old clusters.new }
-{
-    cancel(clusters, thread, Armer::Thread(thread));
-    let waiting = thread_of(clusters, thread);
-    let woken = Thread {
-        wait: None,
-        finished: Some(reply),
-        ..waiting
-    };
-    put(clusters, thread, woken);
 }

@@ -1,28 +1,32 @@
 //! The directives of the task manager.
 
-ghost use Rattle.std.specs.Prelude.{◌≡◌, ◌<◌, IfSome, IsSome, length, true};
+ghost use Rattle.std.specs.Prelude.{◌≡◌, IfSome, IsSome, [], true};
 ghost use Rattle.rk_model.specs.declared.ids.Class.TheVariants.{Task};
 ghost use Rattle.rk_model.specs.declared.scenario.Scenario.{Scenario as ScenarioView};
+ghost use Rattle.rk_model.specs.declared.state.Armer.TheVariants.{Thread as OfThread};
 ghost use Rattle.rk_model.specs.declared.state.Life.TheVariants.{Started};
 ghost use Rattle.rk_model.specs.State.{Plain};
-ghost use Rattle.rk_model.specs.Directives.Objects.{has_begun, object_of};
+ghost use Rattle.rk_model.specs.Directives.Objects.{has_begun, begun_in, object_of};
 ghost use Rattle.rk_model.specs.Directives.Tasks.{task_of, task_named, dormant_in, prio_refusal, task_create, task_ident, is_dormant, task_start, task_suspend, task_resume, task_set_priority, without_task, task_delete, task_exit, task_wake_after};
 ghost use Rattle.rk_model.specs.Directives.Outcomes.{arrived};
 ghost use Rattle.rk_model.specs.Limits.{AreRunnable};
-ghost use Rattle.rk_kernel.specs.Does.{BecomesWide, Does, DoesWide, Tells, with_table};
+ghost use Rattle.rk_model.specs.Scheduling.Timers.{times_armed};
+ghost use Rattle.rk_kernel.specs.Does.{BecomesEvery, Does, DoesEvery, DoesWide, Tells, with_table};
 ghost use Rattle.rk_parts.specs.Joined.{lent, thread_lent, threads_of, timers_lent};
 ghost use Rattle.rk_parts.specs.Lent.{number_in, Puts};
-ghost use Rattle.rk_parts.specs.NamesAgree.{AreNamed};
+ghost use Rattle.rk_parts.specs.NamesAgree.{IsNamed};
 
 use crate::directives::objects::{create, ident, remove};
-use crate::directives::outcomes::{begin_limited, done, value_in};
+use crate::directives::outcomes::{done, value_in};
+use crate::directives::waits::start_limited;
 use rk_model::limits::LEAST_URGENT;
 use rk_model::{
     Answer, Armer, Class, Id, Life, Name, Prio, Scenario, Status, Target, Thread, ThreadIx, Wait,
 };
 use rk_parts::arrival::arrive;
+use rk_parts::groups::leave;
 use rk_parts::lent::{make, put, remove as remove_thread, thread_of};
-use rk_parts::parts::ClusterPart;
+use rk_parts::parts::{ClusterPart, GroupPart};
 use rk_parts::standing::prio_at_home;
 use rk_parts::table::Table;
 use rk_parts::timers::cancel;
@@ -62,7 +66,7 @@ fn task_of(clusters: &[ClusterPart], caller: ThreadIx, bits: u32) -> Option<Thre
 }
 
 /// The task that a caller asks for; `None` exactly where the id is unknown.
-fn task_named(clusters: &[ClusterPart], caller: ThreadIx, id: Target) -> Option<ThreadIx>
+pub(crate) fn task_named(clusters: &[ClusterPart], caller: ThreadIx, id: Target) -> Option<ThreadIx>
     requires { has_begun (thread_lent clusters.now caller).life ≡ true }
     ensures found { result ≡ task_named (lent clusters.now) caller id }
     ensures lives { IfSome result (λ u. has_begun (thread_lent clusters.now u).life ≡ true) }
@@ -109,7 +113,7 @@ pub(crate) fn task_create(
 ) -> Answer
     requires lives { has_begun (thread_lent clusters.old caller).life ≡ true }
     requires lent { IsSome (number_in clusters.old (thread_lent clusters.old caller).home) }
-    requires named { AreNamed names.old (threads_of clusters.old) }
+    requires named { IsNamed names.old.tasks (begun_in (threads_of clusters.old) [] Task) }
     ensures { (s : ScenarioView) → DoesWide s (λ k. task_create k caller name.bits prio) result clusters.old names.old clusters.new names.new }
 {
     let home = thread_of(clusters, caller).home;
@@ -270,12 +274,20 @@ pub(crate) fn task_set_priority(
     }
 }
 
-/// Ends the life of a task: its timer is cancelled, its index is free, and nothing is left of it.
-fn without_task(clusters: &mut [ClusterPart], names: &mut Table, task: ThreadIx)
+/// Ends the life of a task: it leaves its queue, its timer is cancelled, its index is free, and
+/// nothing is left of it.
+fn without_task(
+    clusters: &mut [ClusterPart],
+    groups: &mut [GroupPart],
+    names: &mut Table,
+    task: ThreadIx,
+)
     requires lives { has_begun (thread_lent clusters.old task).life ≡ true }
-    requires named { AreNamed names.old (threads_of clusters.old) }
-    ensures { (s : ScenarioView) → BecomesWide s (λ k. without_task k task) clusters.old names.old clusters.new names.new }
+    requires named { IsNamed names.old.tasks (begun_in (threads_of clusters.old) [] Task) }
+    ensures { (s : ScenarioView) → BecomesEvery s (λ k. without_task k task) clusters.old groups.old names.old clusters.new groups.new names.new }
 {
+    let wait = thread_of(clusters, task).wait;
+    leave(groups, task, &wait);
     cancel(clusters, task, Armer::Thread(task));
     remove_thread(clusters, task);
     remove(names, Class::Task, u16::from(task.at()));
@@ -285,18 +297,19 @@ fn without_task(clusters: &mut [ClusterPart], names: &mut Table, task: ThreadIx)
 /// go on. It refuses with `INVALID_ID` where the task is unknown.
 pub(crate) fn task_delete(
     clusters: &mut [ClusterPart],
+    groups: &mut [GroupPart],
     names: &mut Table,
     caller: ThreadIx,
     id: Target,
 ) -> Answer
     requires lives { has_begun (thread_lent clusters.old caller).life ≡ true }
-    requires named { AreNamed names.old (threads_of clusters.old) }
-    ensures { (s : ScenarioView) → DoesWide s (λ k. task_delete k caller id) result clusters.old names.old clusters.new names.new }
+    requires named { IsNamed names.old.tasks (begun_in (threads_of clusters.old) [] Task) }
+    ensures { (s : ScenarioView) → DoesEvery s (λ k. task_delete k caller id) result clusters.old groups.old names.old clusters.new groups.new names.new }
 {
     match task_named(clusters, caller, id) {
         None => Answer::Refused(Status::InvalidId),
         Some(task) => {
-            without_task(clusters, names, task);
+            without_task(clusters, groups, names, task);
             if task == caller {
                 Answer::Gone(Status::Successful)
             } else {
@@ -324,13 +337,13 @@ pub(crate) fn task_exit(clusters: &mut [ClusterPart], caller: ThreadIx) -> Answe
 /// with 0.
 pub(crate) fn task_wake_after(clusters: &mut [ClusterPart], caller: ThreadIx, ticks: u32) -> Answer
     requires lives { has_begun (thread_lent clusters.old caller).life ≡ true }
-    requires room { length (timers_lent clusters.old caller) < 64 }
+    requires unarmed { times_armed (OfThread caller) (timers_lent clusters.old caller) ≡ 0 }
     ensures { (s : ScenarioView) → Does s (λ k. task_wake_after k caller ticks) result clusters.old clusters.new }
 {
     if ticks == 0 {
         Answer::Done(Status::Successful, 0, Some(caller))
     } else {
-        begin_limited(clusters, caller, Wait::ForTime, ticks);
+        start_limited(clusters, caller, Wait::ForTime, ticks);
         Answer::Waiting
     }
 }

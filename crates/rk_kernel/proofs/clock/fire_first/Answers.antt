@@ -1,5 +1,5 @@
 use Rattle.std.proofs.Common.{refl, ap, ◌∙◌}
-use Rattle.rk_parts.specs.Firing.{head_of}
+use Rattle.rk_model.specs.Scheduling.Timers.{head_of}
 use Rattle.rk_parts.specs.Joined.{plain_of}
 use Rattle.rk_kernel.proofs.PartsSettledLemmas.{part_found}
 use Rattle.rk_kernel.proofs.FiringLemmas.{unchanged, fires_none, fires_some, due_lent, due_lives, ready_same, fired}
@@ -32,7 +32,7 @@ returns-in-Some c =
     let k = plain_of all in
     let x = c.in-Some.timer in
     let first = c.in-Some.ensures.first ∙ ap head_of (due_lent all c.args.cluster c.requires.ready c.requires.cluster) in
-    let done = fired all c.take_due_of.new.clusters c.rung.new.clusters c.settle_parts.new.clusters c.args.cluster x c.requires.ready c.requires.cluster first c.in-Some.ensures.taken (c.rung.ensures all.scenario) c.settle_parts.ensures in
+    let done = fired all c.take_due_of.new.clusters c.rung.new.clusters c.settle_parts.new.clusters c.rung.new.groups c.args.cluster x c.requires.ready c.requires.cluster first c.in-Some.ensures.taken (c.rung.ensures all.scenario) c.settle_parts.ensures in
     record {
       fires = fires_some k _ c.args.cluster _ x first done.state refl;
       ready = done.ready;

@@ -1,12 +1,40 @@
+use Rattle.std.proofs.Common.{refl}
+use Rattle.rk_model.specs.declared.ids.Class.TheVariants.{Task, Barrier}
+use Rattle.rk_model.specs.Directives.Waits.{OfBarrier}
 use Rattle.rk_parts.specs.Joined.{plain_of}
-use Rattle.rk_kernel.proofs.DirectiveLemmas.LentLemmas.{all_narrow, all_wide, all_tells, caller_room, caller_lent}
+use Rattle.rk_parts.proofs.WholeLemmas.{all_groups_lent}
+use Rattle.rk_kernel.proofs.DirectiveLemmas.LentLemmas.{all_both, all_every, all_grouped, all_wide, all_tells, caller_unarmed, caller_lent}
 use Rattle.rk_kernel.proofs.directives.perform.Goals as goal
 
 pub task_create-requires-clause-lent : goal.task_create-requires-clause-lent
 task_create-requires-clause-lent c = caller_lent c.args.all.now c.args.caller c.requires.whole c.requires.acts
 
-pub perform_narrow-requires-clause-room : goal.perform_narrow-requires-clause-room
-perform_narrow-requires-clause-room c = caller_room c.args.all.now c.args.caller c.requires.whole c.requires.acts
+pub task_create-requires-clause-named : goal.task_create-requires-clause-named
+task_create-requires-clause-named c = c.requires.acts.sound.named.class Task
+
+pub task_delete-requires-clause-named : goal.task_delete-requires-clause-named
+task_delete-requires-clause-named c = c.requires.acts.sound.named.class Task
+
+pub barrier_create-requires-clause-named : goal.barrier_create-requires-clause-named
+barrier_create-requires-clause-named c = c.requires.acts.sound.named.class Barrier
+
+pub barrier_create-requires-clause-lent : goal.barrier_create-requires-clause-lent
+barrier_create-requires-clause-lent c = λ i low high. all_groups_lent c.args.all.now i c.requires.whole low high
+
+pub barrier_delete-requires-clause-named : goal.barrier_delete-requires-clause-named
+barrier_delete-requires-clause-named c = c.requires.acts.sound.named.class Barrier
+
+pub barrier_delete-requires-clause-queue : goal.barrier_delete-requires-clause-queue
+barrier_delete-requires-clause-queue c = λ i _ t. c.requires.acts.sound.tied.queued t refl (OfBarrier i)
+
+pub perform_narrow-requires-clause-unarmed : goal.perform_narrow-requires-clause-unarmed
+perform_narrow-requires-clause-unarmed c = caller_unarmed c.args.all.now c.args.caller c.requires.whole c.requires.acts
+
+pub perform_narrow-requires-clause-free : goal.perform_narrow-requires-clause-free
+perform_narrow-requires-clause-free c = c.requires.acts.waits_not
+
+pub perform_narrow-requires-clause-queue : goal.perform_narrow-requires-clause-queue
+perform_narrow-requires-clause-queue c = λ i _ t. c.requires.acts.sound.tied.queued t refl (OfBarrier i)
 
 pub returns-in-TaskCreate : goal.returns-in-TaskCreate
 returns-in-TaskCreate c = rw c.in-TaskCreate.is (all_wide c.args.all.now _ _ _ _ c.requires.whole (c.task_create.ensures c.args.all.now.scenario))
@@ -15,7 +43,16 @@ pub returns-in-TaskIdent : goal.returns-in-TaskIdent
 returns-in-TaskIdent c = rw c.in-TaskIdent.is (all_tells c.args.all.now _ _ c.requires.whole (c.task_ident.ensures (plain_of c.args.all.now)))
 
 pub returns-in-TaskDelete : goal.returns-in-TaskDelete
-returns-in-TaskDelete c = rw c.in-TaskDelete.is (all_wide c.args.all.now _ _ _ _ c.requires.whole (c.task_delete.ensures c.args.all.now.scenario))
+returns-in-TaskDelete c = rw c.in-TaskDelete.is (all_every c.args.all.now _ _ _ _ _ c.requires.whole (c.task_delete.ensures c.args.all.now.scenario))
+
+pub returns-in-BarrierCreate : goal.returns-in-BarrierCreate
+returns-in-BarrierCreate c = rw c.in-BarrierCreate.is (all_grouped c.args.all.now _ _ _ _ c.requires.whole (c.barrier_create.ensures c.args.all.now.scenario))
+
+pub returns-in-BarrierIdent : goal.returns-in-BarrierIdent
+returns-in-BarrierIdent c = rw c.in-BarrierIdent.is (all_tells c.args.all.now _ _ c.requires.whole (c.barrier_ident.ensures (plain_of c.args.all.now)))
+
+pub returns-in-BarrierDelete : goal.returns-in-BarrierDelete
+returns-in-BarrierDelete c = rw c.in-BarrierDelete.is (all_every c.args.all.now _ _ _ _ _ c.requires.whole (c.barrier_delete.ensures c.args.all.now.scenario))
 
 pub returns-in_default : goal.returns-in_default
-returns-in_default c = all_narrow c.args.all.now _ _ _ c.requires.whole c.perform_narrow.ensures
+returns-in_default c = all_both c.args.all.now _ _ _ _ c.requires.whole c.perform_narrow.ensures

@@ -9,7 +9,7 @@ returns c =
     let made : AreMade s _ = record {
       scenario = c.in_ok-copy_scenario.ensures;
       clusters = c.in_ok-clusters.ensures ∙ ap (λ (counts : List ℕ). vacant_parts counts) c.as_slice.ensures;
-      groups = refl;
+      groups = rw (c.in_ok-make_group.ensures, c.in_ok-make_group-2.ensures, c.in_ok-make_group-3.ensures, c.in_ok-make_group-4.ensures) refl;
       time = refl;
       names = c.in_ok-new.ensures;
     } in

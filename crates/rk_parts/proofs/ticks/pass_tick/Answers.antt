@@ -15,7 +15,7 @@ returns c =
     let clusters = c.set_clusters.ensures ∙ ap (λ m. map (at_tick m) old.clusters) tick in
     let groups = c.set_groups.ensures ∙ ap (λ m. map (group_at_tick m) old.groups) tick in
     record {
-      passed = state_tick n old new c.requires.whole clusters refl refl;
+      passed = state_tick n old new c.requires.whole clusters groups refl refl;
       whole = whole_tick n old new c.requires.whole clusters groups tick refl;
       noted = λ count noted. subst (AreNoted count) (sym clusters) (noted_tick n count old.clusters noted);
       scenario = refl;

@@ -1,5 +1,6 @@
-use Rattle.std.proofs.Common.{◌≡◌, ◌++◌, ◌∷◌, [], List, Some, length, sym, ap, ◌∙◌, subst, arith}
+use Rattle.std.proofs.Common.{◌≡◌, ◌++◌, ◌∷◌, [], List, Some, sym, ap, ◌∙◌, subst, arith}
 use Rattle.rk_model.specs.declared.state.Armed.{Armed}
+use Rattle.rk_model.specs.Scheduling.Timers.{times_armed}
 use Rattle.rk_parts.specs.Lent.{found_in, PutsTimers}
 use Rattle.rk_parts.specs.declared.parts.ClusterPart.{ClusterPart}
 use Rattle.rk_parts.proofs.HeldLemmas.{found_within}
@@ -7,13 +8,12 @@ use Rattle.rk_parts.proofs.PutLemmas.{part_is, never_found}
 use Rattle.rk_parts.proofs.LentTimerLemmas.{as_retimed, puts_timers, timers_found}
 use Rattle.rk_parts.proofs.timers.arm.Goals as goal
 
-pub add-requires : goal.add-requires
-add-requires c =
+pub arm-requires-clause-free : goal.arm-requires-clause-free
+arm-requires-clause-free c =
     let parts = c.args.clusters.now in
     let found : found_in parts c.args.thread ≡ Some c.in-Some.at = sym c.place_of.ensures.place ∙ c.in-Some.is in
-    let same = ap (λ (p : ClusterPart). length p.timers) (part_is parts c.in-Some.at c.index-clusters-at.result (found_within parts c.in-Some.at c.args.thread found)) in
-    let size = ap (λ ts. length ts) (timers_found parts c.in-Some.at c.args.thread found) in
-    omega (arith, c.requires.room, same, size)
+    ap (λ (p : ClusterPart). times_armed c.args.who p.timers) (part_is parts c.in-Some.at c.index-clusters-at.result (found_within parts c.in-Some.at c.args.thread found))
+    ∙ ap (times_armed c.args.who) (sym (timers_found parts c.in-Some.at c.args.thread found)) ∙ c.requires.unarmed
 
 pub returns-in-Some : goal.returns-in-Some
 returns-in-Some c =
@@ -22,7 +22,7 @@ returns-in-Some c =
     let timer : Armed = record { who = c.args.who; due = c.args.due } in
     let change = λ (ts : List Armed). ts ++ timer ∷ [] in
     let found : found_in parts t ≡ Some c.in-Some.at = sym c.place_of.ensures.place ∙ c.in-Some.is in
-    subst (PutsTimers parts t change) (sym (as_retimed parts c.in-Some.at c.index-clusters-at.result c.add.new.timers change (found_within parts c.in-Some.at t found) c.add.ensures))
+    subst (PutsTimers parts t change) (sym (as_retimed parts c.in-Some.at c.index-clusters-at.result c.arm.new.self change (found_within parts c.in-Some.at t found) c.arm.ensures))
     (puts_timers parts c.in-Some.at t change (omega arith) (omega arith) found)
 
 pub returns-in_default : goal.returns-in_default

@@ -1,4 +1,5 @@
-use Rattle.std.proofs.Common.{◌≡◌, ℕ, refl, ap, ◌∙◌, None}
+use Rattle.std.proofs.Common.{◌≡◌, ℕ, [], refl, ap, ◌∙◌, None}
+use Rattle.rk_model.specs.Directives.Objects.{begun_in}
 use Rattle.rk_model.specs.declared.entry.Answer.TheVariants.{Done}
 use Rattle.rk_model.specs.declared.status.Status.TheVariants.{Successful}
 use Rattle.rk_model.specs.declared.ids.Class.TheVariants.{Task}
@@ -13,7 +14,7 @@ use Rattle.rk_kernel.proofs.DirectiveLemmas.LentLemmas.{home_known}
 use Rattle.rk_kernel.proofs.directives.tasks.task_create.Goals as goal
 
 pub make-requires-clause-absent : goal.make-requires-clause-absent
-make-requires-clause-absent c = rw c.new-in-Ok.ensures (first_absent c.args.names.now (threads_of c.args.clusters.now) c.in-Ok.index c.requires.named c.in-Ok.ensures.first)
+make-requires-clause-absent c = rw c.new-in-Ok.ensures (first_absent c.args.names.now.tasks (begun_in (threads_of c.args.clusters.now) [] Task) c.in-Ok.index c.requires.named c.in-Ok.ensures.first)
 
 pub returns-in-Err : goal.returns-in-Err
 returns-in-Err c = λ s.

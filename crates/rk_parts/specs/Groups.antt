@@ -1,0 +1,86 @@
+-- The lent groups of objects: which are lent, and what a change of a barrier does to them.
+use Rattle.std.specs.Prelude.{ℕ, ◌≡◌, List, [], ◌∷◌, ◌++◌, Bool, false, ◌||◌, ◌==◌, Option, Some, None, map, if◌then◌else◌}
+use Rattle.std.specs.List.{slice_index_or}
+use Rattle.rk_model.specs.declared.entry.Reply.{Reply}
+use Rattle.rk_model.specs.declared.state.Wait.{Wait}
+use Rattle.rk_model.specs.declared.status.Status.{Status}
+use Rattle.rk_model.specs.declared.status.Status.TheVariants.{Successful, Waits}
+use Rattle.rk_model.specs.declared.waiting.Wake.{Wake}
+use Rattle.rk_model.specs.Lists.{with_nth}
+use Rattle.rk_model.specs.State.{BarrierState}
+use Rattle.rk_model.specs.Directives.Barriers.{is_full}
+use Rattle.rk_model.specs.Directives.Waits.{Object, OfBarrier, bare, object_of_wait, without_arrival}
+use Rattle.rk_queue.specs.Queues.{waits_in}
+use Rattle.rk_signal.specs.Barriers.{Store, group_of, stored_at, put_at, without_waiter}
+use Rattle.rk_parts.specs.declared.parts.GroupPart.{GroupPart}
+use Rattle.rk_parts.specs.Joined.{barriers_of}
+use Rattle.rk_parts.specs.Lent.{one_more}
+
+-- a group without a place
+abbrev pub no_group : GroupPart
+no_group = record { present = 0; barriers = record { group = 0; places = [] }; wakes = [] }
+
+-- the group that stands at a place among these
+abbrev pub group_at : List GroupPart → ℕ → GroupPart
+group_at groups at = slice_index_or groups at no_group
+
+-- the first of these groups that is that of an index
+abbrev pub group_in : List GroupPart → ℕ → Option ℕ
+group_in [] i = None
+group_in (group ∷ groups) i = if group.barriers.group == group_of i then Some 0 else one_more (group_in groups i)
+
+-- whether the group of an index is lent
+abbrev pub is_lent : List GroupPart → ℕ → Bool
+is_lent [] i = false
+is_lent (group ∷ groups) i = (group.barriers.group == group_of i) || is_lent groups i
+
+-- the waits that the last call on the group of an index ended; none where it isn't lent
+abbrev pub wakes_at : List GroupPart → ℕ → List Wake
+wakes_at [] i = []
+wakes_at (group ∷ groups) i = if group.barriers.group == group_of i then group.wakes else wakes_at groups i
+
+-- What no directive changes of a group: its number, and the present tick.
+pub record GroupFrame : Type 0 where
+  pub number : ℕ
+  pub present : ℕ
+
+abbrev pub group_frame : GroupPart → GroupFrame
+group_frame group = record { number = group.barriers.group; present = group.present }
+
+abbrev pub group_frames : List GroupPart → List GroupFrame
+group_frames groups = map group_frame groups
+
+-- The groups stand for the barriers with another one at an index, and keep their frame.
+pub record PutsBarrier (old : List GroupPart) (i : ℕ) (barrier : BarrierState) (new : List GroupPart) : Type 0 where
+  pub barriers : barriers_of new ≡ with_nth (barriers_of old) i barrier
+  pub kept : group_frames new ≡ group_frames old
+
+-- A thread has left the queue of what it waited for, and the groups keep their frame.
+pub record Leaves (old : List GroupPart) (t : ℕ) (wait : Option Wait) (new : List GroupPart) : Type 0 where
+  pub barriers : barriers_of new ≡ without_arrival (barriers_of old) t (object_of_wait wait)
+  pub kept : group_frames new ≡ group_frames old
+
+-- the waits of these threads, ended with a status and without an out number, in order
+abbrev pub ended_waits : Status → List ℕ → List Wake
+ended_waits status threads = map (λ t. record { thread = t; status = status; out = 0 }) threads
+
+-- a barrier after one more thread came to wait at it: where it released all, none waits any more; else it waits as the last
+abbrev pub waited_at : ℕ → BarrierState → BarrierState
+waited_at t barrier = if is_full barrier then record barrier { arrivals = [] } else record barrier { arrivals = barrier.arrivals ++ t ∷ [] }
+
+-- the waits that ended then,
+abbrev pub woken_at : BarrierState → List Wake
+woken_at barrier = if is_full barrier then ended_waits Successful barrier.arrivals else []
+
+-- and what the thread was answered.
+abbrev pub reply_at : BarrierState → Reply
+reply_at barrier = if is_full barrier then bare Successful else bare Waits
+
+-- the barrier at which a thread waits, as the object of its wait
+abbrev pub barrier_object : Option ℕ → Option Object
+barrier_object None = None
+barrier_object (Some i) = Some (OfBarrier i)
+
+-- the barriers of a group after a thread has left one of them, where it waits there
+abbrev pub left_at : Store → ℕ → ℕ → Store
+left_at store i t = if waits_in (stored_at store i).queue t then put_at store i (without_waiter t (stored_at store i)) else store
