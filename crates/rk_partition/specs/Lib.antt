@@ -1,0 +1,2 @@
+pub mod PartitionPlaces
+pub mod Partitions

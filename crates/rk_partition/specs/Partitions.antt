@@ -1,0 +1,106 @@
+-- What the directives of the partition manager do to the partitions of a group.
+use Rattle.std.specs.Prelude.{ℕ, ◌≡◌, ◌-◌, ◌%◌, ◌≤◌, ◌<◌, ◌≢◌, true, false, List, [], ◌∷◌, length, Option, Some, None, if◌then◌else◌}
+use Rattle.std.specs.List.{repeat}
+use Rattle.rk_model.specs.declared.entry.Reply.{Reply}
+use Rattle.rk_model.specs.declared.limits.TheConstants.{MOST_OBJECTS}
+use Rattle.rk_model.specs.declared.status.Status.{Status}
+use Rattle.rk_model.specs.declared.status.Status.TheVariants.{Successful, InvalidAddress, ResourceInUse, Unsatisfied}
+use Rattle.rk_model.specs.Lists.{has, times, nth, with_nth}
+use Rattle.rk_model.specs.State.{PartitionState, no_partition}
+use Rattle.rk_model.specs.Directives.Partitions.{buffers, is_out, is_in_use, memory_refusal, with_free}
+
+-- the answer to a refusal, if there is one
+abbrev pub answered : Option Status → Status
+answered None = Successful
+answered (Some status) = status
+
+-- rtems_partition_create: what it answers to a start, a length and a size of buffers
+abbrev pub judged : ℕ → ℕ → ℕ → Status
+judged start length size = answered (memory_refusal start length size)
+
+-- Where no partition lives, the place is empty. The memory of one that lives is in order. No address is free more often than it is that of a buffer: so what is free is a buffer, and is free once.
+pub record IsStored (stored : PartitionState) : Type 0 where
+  pub vacant : stored.live ≡ false → stored ≡ no_partition
+  pub made : stored.live ≡ true → memory_refusal stored.start stored.length stored.size ≡ None
+  pub once : (address : ℕ) → times address stored.free ≤ times address (buffers stored)
+
+-- The partitions of a group: its number from 0 to 3, and a place for each index from 1 to 64.
+pub record Store : Type 0 where
+  pub group : ℕ
+  pub places : List PartitionState
+
+-- the store of a group in which no partition lives
+abbrev pub none_live : ℕ → Store
+none_live group = record { group = group; places = repeat MOST_OBJECTS (no_partition ∷ []) }
+
+-- the group of an index from 1
+abbrev pub group_of : ℕ → ℕ
+group_of index = (index - 1) % 4
+
+-- The index is one of 1 to 64, and of the group.
+pub record IsOfGroup (group index : ℕ) : Type 0 where
+  pub low : 1 ≤ index
+  pub high : index ≤ MOST_OBJECTS
+  pub of : group_of index ≡ group
+
+-- There are places for 64 partitions, and at each index of another group none lives.
+pub record IsStore (store : Store) : Type 0 where
+  pub below : store.group < 4
+  pub count : length store.places ≡ MOST_OBJECTS
+  pub others : (index : ℕ) → group_of index ≢ store.group → nth no_partition store.places index ≡ no_partition
+
+-- the place of an index
+abbrev pub stored_at : Store → ℕ → PartitionState
+stored_at store index = nth no_partition store.places index
+
+-- the store with another place at an index
+abbrev pub put_at : Store → ℕ → PartitionState → Store
+put_at store index stored = record store { places = with_nth store.places index stored }
+
+-- the answer of a directive that is done, with an out number
+abbrev pub successful : ℕ → Reply
+successful out = record { status = Successful; out = out }
+
+-- the answer of a directive that refuses
+abbrev pub refused : Status → Reply
+refused status = record { status = status; out = 0 }
+
+-- the free buffers without the first
+abbrev pub all_but_first : List ℕ → List ℕ
+all_but_first [] = []
+all_but_first (first ∷ rest) = rest
+
+-- rtems_partition_get_buffer: the first free buffer, if there is one, is free no longer,
+abbrev pub without_first : PartitionState → PartitionState
+without_first stored = record stored { free = all_but_first stored.free }
+
+-- and the answer is its address, or that no buffer is free.
+abbrev pub reply_to_get : List ℕ → Reply
+reply_to_get [] = refused Unsatisfied
+reply_to_get (first ∷ rest) = successful first
+
+-- A buffer that is taken was free, and is out then.
+pub record IsTaken (address : ℕ) (stored : PartitionState) : Type 0 where
+  pub free : has stored.free address ≡ true
+  pub out : is_out (without_first stored) address ≡ true
+
+-- A buffer of the partition is out.
+pub record HasOut (stored : PartitionState) : Type 0 where
+  pub address : ℕ
+  pub out : is_out stored address ≡ true
+
+-- rtems_partition_return_buffer: a buffer that is out is free again,
+abbrev pub returned : ℕ → PartitionState → PartitionState
+returned address stored = if is_out stored address then with_free stored address else stored
+
+-- and each other address is refused.
+abbrev pub reply_to_return : ℕ → PartitionState → Reply
+reply_to_return address stored = if is_out stored address then successful 0 else refused InvalidAddress
+
+-- rtems_partition_delete: a partition of which no buffer is out lives no longer,
+abbrev pub deleted : PartitionState → PartitionState
+deleted stored = if is_in_use stored then stored else no_partition
+
+-- and each other is refused.
+abbrev pub reply_to_delete : PartitionState → Reply
+reply_to_delete stored = if is_in_use stored then refused ResourceInUse else successful 0
