@@ -1,4 +1,4 @@
--- A cluster whose processors are assigned by its line.
+-- A cluster whose processors are assigned by its ready queue.
 use Rattle.std.proofs.Common.{◌≡◌, ℕ, List, [], Option, None, length, replicate, ap, sym, ◌∙◌, map}
 use Rattle.rk_model.specs.Scheduling.ReadyQueues.{kept, assigned}
 use Rattle.rk_model.proofs.AssignmentLemmas.{length-assigned, assigned_again, filled_none, none_urgent, kept_free}
@@ -9,7 +9,7 @@ use Rattle.rk_cluster.specs.Registers.{no_changes}
 use Rattle.rk_cluster.specs.Clusters.{Cluster, runners_of, AreAssigned, lined_up, settled}
 use Rattle.rk_cluster.proofs.RegisterPassLemmas.{moved_none}
 
--- the processors that were assigned by a line
+-- the processors that were assigned by a ready queue
 pub assigned_by : (line : List Place) (old cpus : List (Option ℕ)) → cpus ≡ assigned old (runners_of (length old) line) → AreAssigned line cpus
 assigned_by line old cpus is =
     let running = runners_of (length old) line in
@@ -24,7 +24,7 @@ assigned_free n cpus is =
     let same : assigned free (runners_of (length free) []) ≡ free = ap (assigned free) none ∙ filled_none (map (kept []) free) ∙ kept_free n in
     rw is same
 
--- A cluster whose processors are assigned by its line stays as it is where nothing changes.
+-- A cluster whose processors are assigned by its ready queue stays as it is where nothing changes.
 pub settled_still : (changes : ℕ → Option Change) (cluster : Cluster) → changes ≡ no_changes → AreAssigned cluster.line cluster.cpus → settled changes cluster ≡ cluster
 settled_still changes cluster none assigned =
     ap (lined_up cluster) (moved_none changes cluster.line none) ∙ ap (λ (cpus : List (Option ℕ)). (let x : Cluster = record cluster { cpus = cpus } in x)) assigned

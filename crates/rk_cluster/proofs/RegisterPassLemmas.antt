@@ -1,4 +1,4 @@
--- What the changes of one thread after another do to a line.
+-- What the changes of one thread after another do to a ready queue.
 use Rattle.std.proofs.Common.{◌≡◌, ◌≢◌, ℕ, zero, suc, ◌+◌, ◌-◌, ◌<◌, ◌≤◌, List, [], ◌∷◌, ◌++◌, Bool, true, false, cond, not, ◌||◌, ◌==◌, ◌⊎◌, inl, inr, ⊎_elim, Option, Some, None, length, replicate, get_or, arith, refl, ap, sym, ◌∙◌, append_assoc, add-one}
 use Rattle.std.proofs.lemmas.List.{get_or_past, append-nil, get_or_default, get_or-replicate, length-replicate, get_or-set_same, get_or-set_other}
 use Rattle.std.proofs.lemmas.Bool.{cases_lt, cases_eq, false≢true}
@@ -35,7 +35,7 @@ kept_stay t prio (place ∷ line) = by t prio place line (place.thread == t) (ke
   by t prio place line true more = ap (λ (rest : List Place). (record place { prio = prio }) ∷ rest) more
   by t prio place line false more = ap (λ (rest : List Place). place ∷ rest) more
 
--- where no thread of a line has a change, it stays as it is
+-- where no thread of a ready queue has a change, it stays as it is
 pub kept_all : (f : ℕ → Option Change) (line : List Place) → ((t : ℕ) → has (threads line) t ≡ true → f t ≡ None) → kept_places f line ≡ line
 kept_all f [] none = refl
 kept_all f (place ∷ line) none =
@@ -103,7 +103,7 @@ fronts_above changes t a (suc n) h =
     let more = fronts_above changes t (a + 1) n (omega arith) in
     has_threads-append (front_place a (changes a)) (fronts_from changes (a + 1) n) t ∙ (rw (front_above t a (changes a) h, more) refl)
 
--- where a thread isn't in a line, its change alone does nothing to it
+-- where a thread isn't in a ready queue, its change alone does nothing to it
 alone_absent : (t : ℕ) (change : Option Change) (line : List Place) → has (threads line) t ≡ false → kept_places (alone t change) line ≡ line
 alone_absent t change line absent = kept_all (alone t change) line (λ u h. by u (u == t) refl h) where
   by : (u : ℕ) (b : Bool) → (u == t) ≡ b → has (threads line) u ≡ true → cond b change None ≡ None
@@ -419,7 +419,7 @@ marked_less marks marks' at changes within marked others i h none =
     (λ other. get_or-set_other changes at i None None other ∙ marked i h (sym (others i h other) ∙ none))
     (cases_eq i at)
 
--- an empty register keeps a line
+-- an empty register keeps a ready queue
 pub moved_none : (changes : ℕ → Option Change) (line : List Place) → changes ≡ no_changes → moved changes line ≡ line
 unfolding fronts ends
 moved_none changes line none =

@@ -1,4 +1,4 @@
--- The line, one thread's change after another.
+-- The ready queue, one thread's change after another.
 use Rattle.std.specs.Prelude.{ℕ, zero, suc, ◌+◌, ◌<◌, ◌≡◌, List, ◌++◌, false, Option, Some, None, ◌==◌, if◌then◌else◌}
 use Rattle.std.specs.Int.{bit_at}
 use Rattle.rk_model.specs.Lists.{has}
@@ -12,20 +12,20 @@ use Rattle.rk_cluster.specs.Registers.{change_at, front_place, kept_places}
 abbrev pub alone : ℕ → Option Change → ℕ → Option Change
 alone t change u = if u == t then change else None
 
--- the line after one thread's change, where a thread that goes to the end is taken out
+-- the ready queue after one thread's change, where a thread that goes to the end is taken out
 abbrev pub changed_but_end : ℕ → Option Change → List Place → List Place
 changed_but_end t change line = front_place t change ++ kept_places (alone t change) line
 
--- the line after the changes of n threads, from t on, the greatest index first, where those that go to the end are taken out
+-- the ready queue after the changes of n threads, from t on, the greatest index first, where those that go to the end are taken out
 abbrev pub changed_but_ends_from : (ℕ → Option Change) → ℕ → ℕ → List Place → List Place
 changed_but_ends_from changes t zero line = line
 changed_but_ends_from changes t (suc n) line = changed_but_end t (changes t) (changed_but_ends_from changes (t + 1) n line)
 
--- a thread that goes to the end isn't in the line
+-- a thread that goes to the end isn't in the ready queue
 abbrev pub IsOut : ℕ → Option Change → List Place → Type 0
 IsOut t change line = (p : ℕ) → change ≡ Some (ToEnd p) → has (threads line) t ≡ false
 
--- no thread that goes to the end is in the line
+-- no thread that goes to the end is in the ready queue
 abbrev pub EndsAreOut : (ℕ → Option Change) → List Place → Type 0
 EndsAreOut changes line = (t : ℕ) → IsOut t (changes t) line
 

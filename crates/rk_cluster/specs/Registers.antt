@@ -1,4 +1,4 @@
--- Registers of changes, and what they do to a line.
+-- Registers of changes, and what they do to a ready queue.
 use Rattle.std.specs.Prelude.{ℕ, zero, suc, ◌+◌, List, [], ◌∷◌, ◌++◌, Option, Some, None, ◌==◌, if◌then◌else◌}
 use Rattle.rk_model.specs.declared.limits.TheConstants.{MOST_OBJECTS}
 use Rattle.rk_model.specs.Lists.{nth}
@@ -34,7 +34,7 @@ end_place t (Some (ToEnd p)) = (record { thread = t; prio = p }) ∷ []
 end_place t (Some (ToFront p)) = []
 end_place t (Some (Stay p)) = []
 
--- what stays of a place of the line: the place itself where its thread has no change, and its thread with the new priority where it stays
+-- what stays of a place of the ready queue: the place itself where its thread has no change, and its thread with the new priority where it stays
 abbrev pub kept_place : Place → Option Change → List Place
 kept_place place None = place ∷ []
 kept_place place (Some Leave) = []
@@ -60,11 +60,11 @@ fronts changes = fronts_from changes 1 MOST_OBJECTS
 unfoldable pub ends : (ℕ → Option Change) → List Place
 ends changes = ends_from changes 1 MOST_OBJECTS
 
--- what stays of a line, in its order
+-- what stays of a ready queue, in its order
 abbrev pub kept_places : (ℕ → Option Change) → List Place → List Place
 kept_places changes [] = []
 kept_places changes (place ∷ line) = kept_place place (changes place.thread) ++ kept_places changes line
 
--- The line after the changes: those that go to the front, the least index first; those that stay, in their order; and those that go to the end, in rising index.
+-- The ready queue after the changes: those that go to the front, the least index first; those that stay, in their order; and those that go to the end, in rising index.
 abbrev pub moved : (ℕ → Option Change) → List Place → List Place
 moved changes line = fronts changes ++ kept_places changes line ++ ends changes

@@ -1,4 +1,5 @@
 ghost use Rattle.std.specs.Prelude.{◌≡◌, ◌≤◌, length, map, filter, not};
+ghost use Rattle.rk_model.specs.declared.limits.TheConstants.{MOST_PROCESSORS};
 ghost use Rattle.rk_model.specs.Lists.{has};
 ghost use Rattle.rk_model.specs.Scheduling.ReadyQueues.{has_cpu, kept, filled, assigned};
 ghost use Rattle.rk_cluster.specs.Clusters.{runners_of};
@@ -36,7 +37,7 @@ pub(crate) fn is_on_cpu(cpus: &[Option<ThreadIx>], thread: ThreadIx) -> bool
 
 /// Puts the scheduled threads of so many processors into `out`, the most urgent first.
 fn find_runners(out: &mut Few, line: &Line, cpus: u8)
-    requires { cpus ≤ 8 }
+    requires { cpus ≤ MOST_PROCESSORS }
     ensures found { out.new ≡ runners_of cpus line.now }
     ensures few { length out.new ≤ cpus }
 {
@@ -50,7 +51,7 @@ fn find_runners(out: &mut Few, line: &Line, cpus: u8)
 
 /// Puts those of the scheduled threads that no processor has into `out`.
 fn find_fresh(out: &mut Few, cpus: &[Option<ThreadIx>], running: &[ThreadIx])
-    requires { length running.now ≤ 8 }
+    requires { length running.now ≤ MOST_PROCESSORS }
     ensures { out.new ≡ filter (λ t. not (has_cpu cpus.now t)) running.now }
 {
     out.clear();
@@ -94,7 +95,7 @@ pub(crate) fn assign(
     running: &mut Few,
     fresh: &mut Few,
 )
-    requires { length cpus.old ≤ 8 }
+    requires { length cpus.old ≤ MOST_PROCESSORS }
     ensures { cpus.new ≡ assigned cpus.old (runners_of (length cpus.old) line.now) }
 {
     find_runners(running, line, cpus.len() as u8);

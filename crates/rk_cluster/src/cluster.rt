@@ -1,5 +1,6 @@
 ghost use Rattle.std.specs.Prelude.{◌≡◌, ◌+◌, ◌-◌, ◌<◌, ◌≤◌, [], None, IfOk, length};
 ghost use Rattle.std.specs.List.{slice_index_or};
+ghost use Rattle.rk_model.specs.declared.limits.TheConstants.{MOST_CLUSTERS, MOST_PROCESSORS};
 ghost use Rattle.rk_model.specs.Scheduling.ReadyQueues.{has_cpu};
 ghost use Rattle.rk_cluster.specs.Registers.{change_at, no_changes};
 ghost use Rattle.rk_cluster.specs.Clusters.{empty_cluster, settled};
@@ -28,12 +29,13 @@ pub struct Cluster {
 impl Model for Cluster {
     ghost use Rattle.rk_cluster.specs.Clusters.{Cluster as ClusterView, AreAssigned};
     ghost use Rattle.std.specs.Prelude.{◌+◌, ◌<◌, ◌≤◌, length};
+    ghost use Rattle.rk_model.specs.declared.limits.TheConstants.{MOST_CLUSTERS, MOST_PROCESSORS};
 
     ghost Value = { ClusterView };
 
     ghost view = { λ c. record { number = c.number; first = c.first; line = c.line; cpus = c.cpus } };
 
-    ghost invariant = { λ c. (c.number < 4) × (c.first + length c.cpus ≤ 8) × AreAssigned c.line c.cpus };
+    ghost invariant = { λ c. (c.number < MOST_CLUSTERS) × (c.first + length c.cpus ≤ MOST_PROCESSORS) × AreAssigned c.line c.cpus };
 }
 
 impl Cluster {
@@ -44,8 +46,8 @@ impl Cluster {
     ///
     /// `NoMemory` where there is no memory for its ready queue and processors.
     pub fn new(alloc: Global, number: u8, first: u8, cpus: u8) -> Result<Cluster, NoMemory>
-        requires number { number < 4 }
-        requires cpus { first + cpus ≤ 8 }
+        requires number { number < MOST_CLUSTERS }
+        requires cpus { first + cpus ≤ MOST_PROCESSORS }
         ensures { IfOk result (λ c. c ≡ empty_cluster number first cpus) }
     {
         let free = vec![in alloc; None; cpus as usize]?;
@@ -99,7 +101,7 @@ impl Cluster {
     /// How many processors the cluster has, at most 8.
     pub fn cpus(&self) -> u8
         ensures count { result ≡ length self.now.cpus }
-        ensures few { result ≤ 8 }
+        ensures few { result ≤ MOST_PROCESSORS }
     {
         self.cpus.len() as u8
     }
@@ -107,7 +109,7 @@ impl Cluster {
     /// The number of its first processor among those of all clusters, of which there are at most 8.
     pub fn first(&self) -> u8
         ensures value { result ≡ self.now.first }
-        ensures few { result + length self.now.cpus ≤ 8 }
+        ensures few { result + length self.now.cpus ≤ MOST_PROCESSORS }
     {
         self.first
     }
@@ -115,7 +117,7 @@ impl Cluster {
     /// The number of the cluster, from 0 to 3.
     pub fn number(&self) -> u8
         ensures value { result ≡ self.now.number }
-        ensures few { result < 4 }
+        ensures few { result < MOST_CLUSTERS }
         ensures still { settled no_changes self.now ≡ self.now }
     {
         self.number

@@ -1,4 +1,5 @@
 ghost use Rattle.std.specs.Prelude.{◌≡◌, ◌++◌, IfOk, IsTrue, length, replicate, None};
+ghost use Rattle.rk_model.specs.declared.limits.TheConstants.{MOST_OBJECTS};
 ghost use Rattle.rk_line.specs.Places.{without, with_prio};
 ghost use Rattle.rk_cluster.specs.Registers.{change_at, no_changes, with_change, end_place, fronts, ends, kept_places, moved};
 ghost use Rattle.rk_cluster.specs.Passes.{changed_but_end, IsOut, EndsAreOut, AreMarked};
@@ -36,12 +37,13 @@ impl Model for Moves {
     ghost use Rattle.std.specs.Prelude.{List, Option, ◌≡◌, length};
     ghost use Rattle.rk_cluster.specs.declared.moves.Change.{Change};
     ghost use Rattle.rk_cluster.specs.Passes.{AreMarked};
+    ghost use Rattle.rk_model.specs.declared.limits.TheConstants.{MOST_OBJECTS};
 
     ghost Value = { List (Option Change) };
 
     ghost view = { λ m. m.changes };
 
-    ghost invariant = { λ m. (length m.changes ≡ 64) × AreMarked m.marks m.changes };
+    ghost invariant = { λ m. (length m.changes ≡ MOST_OBJECTS) × AreMarked m.marks m.changes };
 }
 
 /// Takes a thread out of a ready queue, where it stands there.
@@ -79,7 +81,7 @@ fn apply_but_end(line: &mut Line, thread: ThreadIx, change: Option<Change>)
 
 /// Applies the changes of all threads to a ready queue. The threads that go to the end are taken out.
 fn apply_but_ends(changes: &[Option<Change>], marks: u64, line: &mut Line)
-    requires size { length changes.now ≡ 64 }
+    requires size { length changes.now ≡ MOST_OBJECTS }
     requires marked { AreMarked marks changes.now }
     ensures { line.new ≡ fronts (change_at changes.now) ++ kept_places (change_at changes.now) line.old }
 {
@@ -106,7 +108,7 @@ fn append_end(line: &mut Line, thread: ThreadIx, change: Option<Change>)
 
 /// Puts the threads that go to the end of a ready queue there, in rising index.
 fn append_ends(changes: &[Option<Change>], marks: u64, line: &mut Line)
-    requires size { length changes.now ≡ 64 }
+    requires size { length changes.now ≡ MOST_OBJECTS }
     requires marked { AreMarked marks changes.now }
     requires out { EndsAreOut (change_at changes.now) line.old }
     ensures { line.new ≡ line.old ++ ends (change_at changes.now) }

@@ -1,5 +1,6 @@
 ghost use Rattle.std.specs.Prelude.{◌≡◌, ◌≢◌, ◌↔◌, ◌≤◌, [], ◌==◌, length, IfOk, IfSome, IfNone, OnErr, Err, true};
 ghost use Rattle.std.specs.List.{range_with_len};
+ghost use Rattle.rk_model.specs.declared.limits.TheConstants.{MOST_OBJECTS};
 ghost use Rattle.rk_model.specs.Ids.{id_of, index_in};
 ghost use Rattle.rk_model.specs.Names.{no_names, given_back, least_named, lesser};
 ghost use Rattle.rk_ids.specs.declared.ids.IdError.TheVariants.{InvalidName, TooMany};
@@ -63,7 +64,7 @@ impl Ids {
     pub fn make(&mut self, name: Name) -> Result<Id, IdError>
         ensures made { IfOk result (λ id. IsMade id.bits name.bits self.old self.new) }
         ensures unnamed { (result ≡ Err InvalidName) ↔ (name.bits ≡ 0) }
-        ensures full { (result ≡ Err TooMany) ↔ ((name.bits ≢ 0) × (length self.old.names.live ≡ 64)) }
+        ensures full { (result ≡ Err TooMany) ↔ ((name.bits ≢ 0) × (length self.old.names.live ≡ MOST_OBJECTS)) }
         ensures none_free { (result ≡ Err TooMany) ↔ ((name.bits ≢ 0) × (self.old.names.free ≡ [])) }
         ensures kept { OnErr result (self.new ≡ self.old) }
     {
@@ -101,7 +102,7 @@ impl Ids {
     /// none.
     pub fn index_of(&self, id: Id) -> Option<u16>
         ensures index { result ≡ live_index self.now (index_in self.now.class id.bits) }
-        ensures few { IfSome result (λ index. (1 ≤ index) × (index ≤ 64)) }
+        ensures few { IfSome result (λ index. (1 ≤ index) × (index ≤ MOST_OBJECTS)) }
         ensures lives { IfSome result (λ index. lives_at self.now index ≡ true) }
     {
         let index = id.index_in(self.class)?;
@@ -135,7 +136,7 @@ impl Ids {
 /// Puts the indices from 1 to 64 into an empty list, in order.
 fn free_all(free: &mut Bounded<u16, MOST_OBJECTS>)
     requires { free.old ≡ [] }
-    ensures { free.new ≡ range_with_len 1 64 }
+    ensures { free.new ≡ range_with_len 1 MOST_OBJECTS }
 {
     for before in 0..MOST_OBJECTS as u16 {
         free.push(before + 1);

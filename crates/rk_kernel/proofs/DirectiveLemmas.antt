@@ -1,7 +1,8 @@
 pub mod LentLemmas
 pub mod TasksLemmas
 pub mod EventsLemmas
+pub mod ObjectsLemmas
 pub mod BarriersLemmas
 pub mod LentBarriersLemmas
-pub mod ObjectsLemmas
+pub mod PartitionsLemmas
 pub mod ActionLemmas

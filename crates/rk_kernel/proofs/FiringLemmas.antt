@@ -164,7 +164,7 @@ pub fires_none : (k next : Plain) (c : ℕ) (fired : Bool) → None ≡ head_of 
 fires_none k next c fired none taken kept = subst (λ (xs : List Armed). FiresFirst c xs k fired next) (sym (head_none (due_now k c) none)) (kept, unchanged k next c none taken)
 
 pub fires_some : (k next : Plain) (c : ℕ) (fired : Bool) (x : Armed) → Some x ≡ head_of (due_now k c) → next ≡ fire k c x → fired ≡ true → FiresFirst c (due_now k c) k fired next
-fires_some k next c fired x some done told = subst (λ (xs : List Armed). FiresFirst c xs k fired next) (sym (head_some (due_now k c) x some)) (told, done)
+fires_some k next c fired x some done so_far = subst (λ (xs : List Armed). FiresFirst c xs k fired next) (sym (head_some (due_now k c) x some)) (so_far, done)
 
 -- the timer was taken out, and has fired
 pub expired : (k taken after : Plain) (c : ℕ) (x : Armed) → taken ≡ take_due k c → after ≡ rung taken x.who → after ≡ expire k c x.who
@@ -200,8 +200,8 @@ due_lives all taken c x ready known some takes = by x.who refl where
 -- A timer rings in lent parts where the wait of its thread ends.
 pub rings : (before after : List ClusterPart) (groups groups' : List GroupPart) (who : Armer) (t : ℕ) (thread : Thread) (reply : Reply) → who ≡ OfThread t → thread ≡ thread_lent before t → reply ≡ reply_at_timer thread.wait →
     ((s : Scenario) → BecomesBoth s (λ k. end_wait k t reply) before groups after groups') → (s : Scenario) → BecomesBoth s (λ k. rung k who) before groups after groups'
-rings before after groups groups' who t thread reply whose is told ends s =
-    let same : reply ≡ reply_at_timer (thread_lent before t).wait = told ∙ ap (λ (x : Thread). reply_at_timer x.wait) is in
+rings before after groups groups' who t thread reply whose is so_far ends s =
+    let same : reply ≡ reply_at_timer (thread_lent before t).wait = so_far ∙ ap (λ (x : Thread). reply_at_timer x.wait) is in
     record {
       state = λ table laid.
           (ends s).state table laid ∙ ap (end_wait (joined s table before groups) t) same ∙ ap (rung (joined s table before groups)) (sym whose);

@@ -11,7 +11,7 @@ use Rattle.rk_model.specs.declared.state.Armed.{Armed}
 use Rattle.rk_model.specs.declared.state.Armer.TheVariants.{Thread as OfThread}
 use Rattle.rk_model.specs.Lists.{nth, with_nth, times}
 use Rattle.rk_model.specs.Names.{Table}
-use Rattle.rk_model.specs.State.{Plain, BarrierState, no_thread, no_barrier, thread_at, put_thread, cluster_at, put_cluster}
+use Rattle.rk_model.specs.State.{Plain, BarrierState, objects_of, no_thread, no_barrier, thread_at, put_thread, cluster_at, put_cluster}
 use Rattle.rk_model.specs.Scheduling.Timers.{times_armed, without_timer, arm, cancel}
 use Rattle.rk_model.specs.Directives.Outcomes.{stored_vars, finished, go_on}
 use Rattle.rk_model.specs.Directives.Waits.{Object, OfBarrier, object_of_wait, is_for, arrivals_in, without, with_arrival, without_arrival, enter, leave, end_wait}
@@ -35,6 +35,7 @@ gentle_same k sound = record {
   present = refl;
   places = refl;
   halls = refl;
+  pools = refl;
   threads = sound.threads;
   lines = keeps_same k.clusters;
   timers = timed_sound k 0 k.clusters sound.clusters;
@@ -49,6 +50,7 @@ gentle_but k m t gentle = record {
   present = gentle.present;
   places = gentle.places;
   halls = gentle.halls;
+  pools = gentle.pools;
   threads = gentle.threads;
   lines = gentle.lines;
   timers = gentle.timers;
@@ -82,10 +84,11 @@ gentle_put k m but t thread gentle home wait lives life bounds = record {
   present = gentle.present;
   places = length-with_nth thread m.threads t ∙ gentle.places;
   halls = gentle.halls;
+  pools = gentle.pools;
   threads = All-with_nth (IsInBounds k.scenario (length k.clusters) k.present) thread m.threads t bounds gentle.threads;
   lines = gentle.lines;
   timers = timed_kept m.threads (with_nth m.threads t thread) 0 m.clusters (waits_put m.threads t thread home (λ w. ap is_waiting wait ∙ w)) gentle.timers;
-  named = named_put m.table m.threads m.barriers t thread lives life gentle.named;
+  named = named_put m.table (objects_of m) t thread lives life gentle.named;
   tied = tied_put m.barriers m.threads m.clusters but t thread wait home gentle.tied;
 }
 
@@ -96,20 +99,22 @@ gentle_start k m t thread gentle home waits lives life bounds = record {
   present = gentle.present;
   places = length-with_nth thread m.threads t ∙ gentle.places;
   halls = gentle.halls;
+  pools = gentle.pools;
   threads = All-with_nth (IsInBounds k.scenario (length k.clusters) k.present) thread m.threads t bounds gentle.threads;
   lines = gentle.lines;
   timers = timed_kept m.threads (with_nth m.threads t thread) 0 m.clusters (waits_put m.threads t thread home (λ _. waits)) gentle.timers;
-  named = named_put m.table m.threads m.barriers t thread lives life gentle.named;
+  named = named_put m.table (objects_of m) t thread lives life gentle.named;
   tied = tied_any m.barriers m.threads m.clusters t thread (tied_but m.barriers m.threads m.clusters t gentle.tied);
 }
 
 -- to put what has no timer, waits for nothing and stands in no queue, within its bounds, and names that agree with the objects
-pub gentle_unarmed : (k m : Plain) (t : ℕ) (thread : Thread) (table : Table) → IsGentleBut k m (but_one t) → 0 < t → t ≤ length m.threads → AllUnarmed t m.clusters → thread.wait ≡ None → ((object : Object) → times t (arrivals_in m.barriers object) ≡ 0) → AreNamed table (with_nth m.threads t thread) m.barriers → IsInBounds k.scenario (length k.clusters) k.present thread → IsGentle k (record (put_thread m t thread) { table = table })
+pub gentle_unarmed : (k m : Plain) (t : ℕ) (thread : Thread) (table : Table) → IsGentleBut k m (but_one t) → 0 < t → t ≤ length m.threads → AllUnarmed t m.clusters → thread.wait ≡ None → ((object : Object) → times t (arrivals_in m.barriers object) ≡ 0) → AreNamed table (record (objects_of m) { threads = with_nth m.threads t thread }) → IsInBounds k.scenario (length k.clusters) k.present thread → IsGentle k (record (put_thread m t thread) { table = table })
 gentle_unarmed k m t thread table gentle low high none idle gone named bounds = record {
   scenario = gentle.scenario;
   present = gentle.present;
   places = length-with_nth thread m.threads t ∙ gentle.places;
   halls = gentle.halls;
+  pools = gentle.pools;
   threads = All-with_nth (IsInBounds k.scenario (length k.clusters) k.present) thread m.threads t bounds gentle.threads;
   lines = gentle.lines;
   timers = timed_unarmed m.threads (with_nth m.threads t thread) t 0 m.clusters none (λ d u other is. ap (λ (x : Thread). (eqb x.home d) && is_waiting x.wait) (nth-with_other no_thread thread m.threads t u other) ∙ is) gentle.timers;
@@ -124,6 +129,7 @@ gentle_fewer k m but h timers gentle fewer more = record {
   present = gentle.present;
   places = gentle.places;
   halls = gentle.halls;
+  pools = gentle.pools;
   threads = gentle.threads;
   lines = keeps_timers k.clusters m.clusters h timers gentle.lines;
   timers = timed_fewer m.threads 0 h m.clusters timers fewer gentle.timers;
@@ -151,6 +157,7 @@ gentle_arm k m h t due gentle waits none = record {
   present = gentle.present;
   places = gentle.places;
   halls = gentle.halls;
+  pools = gentle.pools;
   threads = gentle.threads;
   lines = keeps_timers k.clusters m.clusters h _ gentle.lines;
   timers = timed_armed m.threads t due h 0 h m.clusters (omega arith) waits none gentle.timers;
@@ -166,13 +173,13 @@ waits_within threads (suc i) waits =
     (λ w. absurd (false≢true (rw (get_or_past threads i no_thread w) at waits))) (cases_lt i (length threads))
 
 -- the barrier in whose queue a thread stands lives
-named_left : (m : Plain) (t : ℕ) (awaited : Option Object) → ((object : Object) → times t (arrivals_in m.barriers object) ≡ cond (is_for awaited object) 1 0) → AreNamed m.table m.threads m.barriers → AreNamed m.table m.threads (without_arrival m.barriers t awaited)
+named_left : (m : Plain) (t : ℕ) (awaited : Option Object) → ((object : Object) → times t (arrivals_in m.barriers object) ≡ cond (is_for awaited object) 1 0) → AreNamed m.table (objects_of m) → AreNamed m.table (record (objects_of m) { barriers = without_arrival m.barriers t awaited })
 named_left m t None stood named = named
 named_left m t (Some (OfBarrier i)) stood named =
     let here : (i == i) ≡ true = equal_test i i refl in
     let once : times t (nth no_barrier m.barriers i).arrivals ≡ 1 = stood (OfBarrier i) ∙ (rw here refl) in
     let lives = by (nth no_barrier m.barriers i).live refl once in
-    named_kept m.table m.threads m.barriers i (record (nth no_barrier m.barriers i) { arrivals = without t (nth no_barrier m.barriers i).arrivals }) lives lives named
+    named_kept m.table (objects_of m) i (record (nth no_barrier m.barriers i) { arrivals = without t (nth no_barrier m.barriers i).arrivals }) lives lives named
   where
     by : (b : Bool) → (nth no_barrier m.barriers i).live ≡ b → times t (nth no_barrier m.barriers i).arrivals ≡ 1 → (nth no_barrier m.barriers i).live ≡ true
     by true e once = e
@@ -187,6 +194,7 @@ gentle_leave k m t gentle stood =
       present = gentle.present;
       places = gentle.places;
       halls = length-left m.barriers t awaited ∙ gentle.halls;
+      pools = gentle.pools;
       threads = gentle.threads;
       lines = gentle.lines;
       timers = gentle.timers;
@@ -194,9 +202,9 @@ gentle_leave k m t gentle stood =
       tied = tied_left m.barriers m.threads m.clusters t gentle.tied;
     }
 
-named_entered : (m : Plain) (t : ℕ) (awaited : Option Object) → IsThere m.barriers awaited → AreNamed m.table m.threads m.barriers → AreNamed m.table m.threads (with_arrival m.barriers t awaited)
+named_entered : (m : Plain) (t : ℕ) (awaited : Option Object) → IsThere m.barriers awaited → AreNamed m.table (objects_of m) → AreNamed m.table (record (objects_of m) { barriers = with_arrival m.barriers t awaited })
 named_entered m t None there named = named
-named_entered m t (Some (OfBarrier i)) there named = named_kept m.table m.threads m.barriers i (record (nth no_barrier m.barriers i) { arrivals = (nth no_barrier m.barriers i).arrivals ++ t ∷ [] }) there there named
+named_entered m t (Some (OfBarrier i)) there named = named_kept m.table (objects_of m) i (record (nth no_barrier m.barriers i) { arrivals = (nth no_barrier m.barriers i).arrivals ++ t ∷ [] }) there there named
 
 -- to enter the queue of what a thread waits for that stands in none
 pub gentle_enter : (k m : Plain) (t : ℕ) (wait : Wait) → IsGentleBut k m (but_one t) → (thread_at m t).wait ≡ Some wait → IsThere m.barriers (object_of_wait (Some wait)) → ((object : Object) → times t (arrivals_in m.barriers object) ≡ 0) → WillWake m.threads m.clusters t → IsGentle k (enter m t (Some wait))
@@ -207,6 +215,7 @@ gentle_enter k m t wait gentle is there none wakes =
       present = gentle.present;
       places = gentle.places;
       halls = length-entered m.barriers t awaited ∙ gentle.halls;
+      pools = gentle.pools;
       threads = gentle.threads;
       lines = gentle.lines;
       timers = gentle.timers;
@@ -243,7 +252,7 @@ gentle_end_wait k m t reply sound gentle stood waits =
     let left = gentle_leave k m t gentle stood in
     gentle_unarmed k (cancel (leave m t) h (OfThread t)) t thread m.table (gentle_cancel k (leave m t) h t left) w.0 w.1 (cancelled k (leave m t) (but_one t) t left) refl
     (left_gone m.barriers t (object_of_wait (thread_at m t).wait) stood)
-    (named_put m.table m.threads (leave m t).barriers t thread begun begun left.named)
+    (named_put m.table (objects_of (leave m t)) t thread begun begun left.named)
     (record { home = b.home; line = b.line; working = b.working; calling = λ _. b.calling calls; apart = λ w. absurd (false≢true (sym (b.apart w) ∙ calls)); acts = b.acts; idle = λ s. absurd (false≢true (sym (b.idle s) ∙ calls)); computed = b.computed })
 
 -- A gentle change after which a thread can still go on: it lives, has a line, and is in no directive that waits.

@@ -11,12 +11,12 @@ use Rattle.rk_model.specs.Lists.{nth, times}
 use Rattle.rk_model.specs.declared.ids.Class.{Class}
 use Rattle.rk_model.specs.declared.ids.Class.TheVariants.{Task, Semaphore, Partition, Period, Barrier}
 use Rattle.rk_model.specs.Names.{Names, Table, names_of, with_names, no_objects, indices, taken}
-use Rattle.rk_model.specs.State.{BarrierState, no_thread, no_barrier}
+use Rattle.rk_model.specs.State.{BarrierState, Objects, PartitionState, no_barrier, no_partition, no_thread}
 use Rattle.rk_model.specs.Directives.Objects.{has_begun, begun_in}
 use Rattle.rk_model.specs.Histories.{begun, places, named_from, begun_names}
 use Rattle.rk_ids.specs.LiveObjects.{IsSplit}
 use Rattle.rk_ids.proofs.FreeIndexLemmas.{split_none}
-use Rattle.rk_parts.specs.NamesAgree.{TakesIn, IsNamed, AreNamed}
+use Rattle.rk_parts.specs.NamesAgree.{TakesFirst, taken_in, IsNamed, AreNamed}
 
 -- a number stands in a range where it is within it
 times_in_range : (t a n : ℕ) → times t (range_with_len a n) ≡ cond (nat_le a t && nat_lt t (a + n)) 1 0
@@ -72,15 +72,29 @@ pub none_stands : (i : ℕ) → nth no_barrier (replicate 64 no_barrier) i ≡ n
 none_stands zero = refl
 none_stands (suc i) = no_hall 64 i
 
-pub named_begun : (s : Scenario) (inits : List Init) → length inits ≤ 64 → AreNamed (begun_table inits) (places 64 (map (begun s) inits)) (replicate 64 no_barrier)
-named_begun s inits few = record { class = class; blank = blank; bare = λ i _. none_stands i } where
+-- nor a partition
+pub no_pool : (n i : ℕ) → get_or (replicate n no_partition) i no_partition ≡ no_partition
+no_pool zero i = refl
+no_pool (suc n) zero = refl
+no_pool (suc n) (suc i) = no_pool n i
+
+none_divided : (i : ℕ) → nth no_partition (replicate 64 no_partition) i ≡ no_partition
+none_divided zero = refl
+none_divided (suc i) = no_pool 64 i
+
+-- the objects where these tasks alone have begun
+abbrev pub begun_objects : Scenario → List Init → Objects
+begun_objects s inits = record { threads = places 64 (map (begun s) inits); barriers = replicate 64 no_barrier; partitions = replicate 64 no_partition }
+
+pub named_begun : (s : Scenario) (inits : List Init) → length inits ≤ 64 → AreNamed (begun_table inits) (begun_objects s inits)
+named_begun s inits few = record { class = class; blank = blank; bare = λ i _. none_stands i; unused = λ i _. none_divided i } where
   nothing : (t : ℕ) → times t (indices (begun_table []).semaphores.live) ≡ 0
   nothing t = refl
 
-  class : (c : Class) → IsNamed (names_of c (begun_table inits)) (begun_in (places 64 (map (begun s) inits)) (replicate 64 no_barrier) c)
+  class : (c : Class) → IsNamed (names_of c (begun_table inits)) (begun_in (begun_objects s inits) c)
   class Task = record { split = split_begun inits few; live = λ t. ap (times t) (indices_from 1 inits) ∙ live_begun s 64 inits t few }
   class Semaphore = record { split = split_none; live = nothing }
-  class Partition = record { split = split_none; live = nothing }
+  class Partition = record { split = split_none; live = λ t. ap (λ (x : PartitionState). cond x.live 1 0) (sym (none_divided t)) }
   class Period = record { split = split_none; live = nothing }
   class Barrier = record { split = split_none; live = λ t. ap (λ (x : BarrierState). cond x.live 1 0) (sym (none_stands t)) }
 
@@ -89,7 +103,7 @@ named_begun s inits few = record { class = class; blank = blank; bare = λ i _. 
   blank (suc i) none = blank_place s 64 inits i none
 
 -- where there is no task yet
-pub named_vacant : (s : Scenario) → AreNamed no_objects (places 64 []) (replicate 64 no_barrier)
+pub named_vacant : (s : Scenario) → AreNamed no_objects (begun_objects s [])
 named_vacant s = named_begun s [] (omega arith)
 
 -- one more init line has its name
@@ -122,14 +136,14 @@ names_more inits i none within few =
           ∙ ap begun_names (sym more),
     )
 
-takes_first : (index name : ℕ) (free rest : List ℕ) (found : Option ℕ) (old new : Table) → free ≡ index ∷ rest → TakesIn free Task name found old new → new ≡ with_names Task (taken old.tasks index rest name) old
-takes_first index name free rest found old new is takes = (subst (λ (xs : List ℕ). TakesIn xs Task name found old new) is takes).1
+takes_first : (index name : ℕ) (free rest : List ℕ) (found : Option ℕ) (old new : Table) → free ≡ index ∷ rest → TakesFirst free (taken_in Task name old) found old new → new ≡ with_names Task (taken old.tasks index rest name) old
+takes_first index name free rest found old new is takes = (subst (λ (xs : List ℕ). TakesFirst xs (taken_in Task name old) found old new) is takes).1
 
-pub named_more : (inits : List Init) (i : ℕ) (none : Init) (found : Option ℕ) (old new : Table) → i < length inits → length inits ≤ 64 → old ≡ begun_table (take i inits) → TakesIn old.tasks.free Task (get_or inits i none).name.bits found old new → new ≡ begun_table (take (i + 1) inits)
-named_more inits i none found old new within few told takes =
+pub named_more : (inits : List Init) (i : ℕ) (none : Init) (found : Option ℕ) (old new : Table) → i < length inits → length inits ≤ 64 → old ≡ begun_table (take i inits) → TakesFirst old.tasks.free (taken_in Task (get_or inits i none).name.bits old) found old new → new ≡ begun_table (take (i + 1) inits)
+named_more inits i none found old new within few so_far takes =
     let name = (get_or inits i none).name.bits in
     let rest = range_with_len (i + 1 + 1) (64 - (i + 1)) in
     let more = names_more inits i none within few in
-    takes_first (i + 1) name old.tasks.free rest found old new (ap (λ (x : Table). x.tasks.free) told ∙ more.0) takes
-    ∙ ap (λ (x : Table). with_names Task (taken x.tasks (i + 1) rest name) x) told
+    takes_first (i + 1) name old.tasks.free rest found old new (ap (λ (x : Table). x.tasks.free) so_far ∙ more.0) takes
+    ∙ ap (λ (x : Table). with_names Task (taken x.tasks (i + 1) rest name) x) so_far
     ∙ ap (λ (names : Names). (let x : Table = record no_objects { tasks = names } in x)) more.1

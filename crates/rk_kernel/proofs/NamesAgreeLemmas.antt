@@ -10,7 +10,7 @@ use Rattle.rk_model.specs.declared.ids.Named.{Named}
 use Rattle.rk_model.specs.declared.state.Thread.{Thread}
 use Rattle.rk_model.specs.Lists.{nth, with_nth, times}
 use Rattle.rk_model.specs.Names.{Names, Table, names_of, with_names, indices, lives, taken, given_back}
-use Rattle.rk_model.specs.State.{BarrierState, no_thread, no_barrier}
+use Rattle.rk_model.specs.State.{BarrierState, PartitionState, Objects, no_thread, no_barrier, no_partition}
 use Rattle.rk_model.specs.Directives.Objects.{has_begun, begun_in}
 use Rattle.rk_model.proofs.BooleanLemmas.{same_number}
 use Rattle.rk_model.proofs.CountLemmas.{same_either_way, times-append, has_times, has_none}
@@ -181,82 +181,108 @@ slots_ended none lives names xs i size gone life slots = record {
 -- ---- all classes
 
 -- an object lives where it has begun
-pub object_lives : (table : Table) (threads : List Thread) (barriers : List BarrierState) (class : Class) (index : ℕ) → AreNamed table threads barriers → lives (names_of class table) index ≡ begun_in threads barriers class index
-object_lives table threads barriers class index named = lives_named (names_of class table) (begun_in threads barriers class) index (named.class class)
+pub object_lives : (table : Table) (objects : Objects) (class : Class) (index : ℕ) → AreNamed table objects → lives (names_of class table) index ≡ begun_in objects class index
+object_lives table objects class index named = lives_named (names_of class table) (begun_in objects class) index (named.class class)
 
--- the names of tasks with the threads,
-abbrev AreTasks : Names → List Thread → Type 0
-AreTasks names threads = AreSlots no_thread (λ (x : Thread). has_begun x.life) names threads
+-- the first free index of a class is one of the 64, and no object of it lives
+pub first_free : (table : Table) (objects : Objects) (class : Class) (index : ℕ) (free : List ℕ) → AreNamed table objects → (names_of class table).free ≡ index ∷ free → IsFree (names_of class table) (begun_in objects class) index
+first_free table objects class index free named is = named_free (names_of class table) (begun_in objects class) index free (named.class class) is
 
-tasks_of : (table : Table) (threads : List Thread) (barriers : List BarrierState) → AreNamed table threads barriers → AreTasks table.tasks threads
-tasks_of table threads barriers named = record { class = named.class Task; bare = named.blank }
+-- ---- tasks
 
-with_tasks : (table : Table) (threads : List Thread) (barriers : List BarrierState) (names : Names) (threads' : List Thread) → AreNamed table threads barriers → AreTasks names threads' → AreNamed (with_names Task names table) threads' barriers
-with_tasks table threads barriers names threads' named slots = record { class = class; blank = slots.bare; bare = named.bare } where
-  class : (c : Class) → IsNamed (names_of c (with_names Task names table)) (begun_in threads' barriers c)
+abbrev has_life : Thread → Bool
+has_life thread = has_begun thread.life
+
+tasks_of : (table : Table) (objects : Objects) → AreNamed table objects → AreSlots no_thread has_life table.tasks objects.threads
+tasks_of table objects named = record { class = named.class Task; bare = named.blank }
+
+with_tasks : (table : Table) (objects : Objects) (names : Names) (threads : List Thread) → AreNamed table objects → AreSlots no_thread has_life names threads → AreNamed (with_names Task names table) (record objects { threads = threads })
+with_tasks table objects names threads named slots = record { class = class; blank = slots.bare; bare = named.bare; unused = named.unused } where
+  class : (c : Class) → IsNamed (names_of c (with_names Task names table)) (begun_in (record objects { threads = threads }) c)
   class Task = slots.class
   class Semaphore = named.class Semaphore
   class Partition = named.class Partition
   class Period = named.class Period
   class Barrier = named.class Barrier
 
--- and those of barriers with the barriers
-abbrev AreBarriers : Names → List BarrierState → Type 0
-AreBarriers names barriers = AreSlots no_barrier (λ (x : BarrierState). x.live) names barriers
+-- other threads, of which the same have begun
+pub named_alike : (table : Table) (objects : Objects) (threads : List Thread) → ((u : ℕ) → has_begun (nth no_thread threads u).life ≡ has_begun (nth no_thread objects.threads u).life) → ((u : ℕ) → has_begun (nth no_thread threads u).life ≡ false → nth no_thread threads u ≡ no_thread) → AreNamed table objects → AreNamed table (record objects { threads = threads })
+named_alike table objects threads same blank named = with_tasks table objects table.tasks threads named (slots_same no_thread has_life table.tasks objects.threads threads same blank (tasks_of table objects named))
 
-barriers_named : (table : Table) (threads : List Thread) (barriers : List BarrierState) → AreNamed table threads barriers → AreBarriers table.barriers barriers
-barriers_named table threads barriers named = record { class = named.class Barrier; bare = named.bare }
+-- a thread that lives is put back where one lives
+pub named_put : (table : Table) (objects : Objects) (t : ℕ) (thread : Thread) → has_begun (nth no_thread objects.threads t).life ≡ true → has_begun thread.life ≡ true → AreNamed table objects → AreNamed table (record objects { threads = with_nth objects.threads t thread })
+named_put table objects t thread was life named = with_tasks table objects table.tasks (with_nth objects.threads t thread) named (slots_put no_thread has_life table.tasks objects.threads t thread was life (tasks_of table objects named))
 
-with_barriers : (table : Table) (threads : List Thread) (barriers : List BarrierState) (names : Names) (barriers' : List BarrierState) → AreNamed table threads barriers → AreBarriers names barriers' → AreNamed (with_names Barrier names table) threads barriers'
-with_barriers table threads barriers names barriers' named slots = record { class = class; blank = named.blank; bare = slots.bare } where
-  class : (c : Class) → IsNamed (names_of c (with_names Barrier names table)) (begun_in threads barriers' c)
+-- a task of the first free index lives then
+pub named_made : (table : Table) (objects : Objects) (index : ℕ) (free : List ℕ) (name : ℕ) (thread : Thread) → AreNamed table objects → length objects.threads ≡ 64 → table.tasks.free ≡ index ∷ free → has_begun thread.life ≡ true → AreNamed (with_names Task (taken table.tasks index free name) table) (record objects { threads = with_nth objects.threads index thread })
+named_made table objects index free name thread named size is life =
+    with_tasks table objects (taken table.tasks index free name) (with_nth objects.threads index thread) named (slots_made no_thread has_life table.tasks objects.threads index free name thread size is life (tasks_of table objects named))
+
+-- a task that lived doesn't any more, its index is free, and nothing is left of it
+pub named_removed : (table : Table) (objects : Objects) (u : ℕ) → AreNamed table objects → length objects.threads ≡ 64 → has_begun (nth no_thread objects.threads u).life ≡ true → AreNamed (with_names Task (given_back table.tasks u) table) (record objects { threads = with_nth objects.threads u no_thread })
+named_removed table objects u named size life =
+    with_tasks table objects (given_back table.tasks u) (with_nth objects.threads u no_thread) named (slots_ended no_thread has_life table.tasks objects.threads u size refl life (tasks_of table objects named))
+
+-- ---- barriers
+
+abbrev is_barrier : BarrierState → Bool
+is_barrier barrier = barrier.live
+
+barriers_named : (table : Table) (objects : Objects) → AreNamed table objects → AreSlots no_barrier is_barrier table.barriers objects.barriers
+barriers_named table objects named = record { class = named.class Barrier; bare = named.bare }
+
+with_barriers : (table : Table) (objects : Objects) (names : Names) (barriers : List BarrierState) → AreNamed table objects → AreSlots no_barrier is_barrier names barriers → AreNamed (with_names Barrier names table) (record objects { barriers = barriers })
+with_barriers table objects names barriers named slots = record { class = class; blank = named.blank; bare = slots.bare; unused = named.unused } where
+  class : (c : Class) → IsNamed (names_of c (with_names Barrier names table)) (begun_in (record objects { barriers = barriers }) c)
   class Task = named.class Task
   class Semaphore = named.class Semaphore
   class Partition = named.class Partition
   class Period = named.class Period
   class Barrier = slots.class
 
--- names agree with threads and barriers of which the same have begun
-pub named_alike : (table : Table) (threads threads' : List Thread) (barriers barriers' : List BarrierState) → ((u : ℕ) → has_begun (nth no_thread threads' u).life ≡ has_begun (nth no_thread threads u).life) → ((u : ℕ) → (nth no_barrier barriers' u).live ≡ (nth no_barrier barriers u).live) → ((u : ℕ) → has_begun (nth no_thread threads' u).life ≡ false → nth no_thread threads' u ≡ no_thread) → ((u : ℕ) → (nth no_barrier barriers' u).live ≡ false → nth no_barrier barriers' u ≡ no_barrier) →
-    AreNamed table threads barriers → AreNamed table threads' barriers'
-named_alike table threads threads' barriers barriers' same alike blank bare named =
-    let tasks = with_tasks table threads barriers table.tasks threads' named (slots_same no_thread (λ (x : Thread). has_begun x.life) table.tasks threads threads' same blank (tasks_of table threads barriers named)) in
-    with_barriers table threads' barriers table.barriers barriers' tasks (slots_same no_barrier (λ (x : BarrierState). x.live) table.barriers barriers barriers' alike bare (barriers_named table threads barriers named))
+-- a barrier that lives is put back where one lives
+pub named_kept : (table : Table) (objects : Objects) (i : ℕ) (barrier : BarrierState) → (nth no_barrier objects.barriers i).live ≡ true → barrier.live ≡ true → AreNamed table objects → AreNamed table (record objects { barriers = with_nth objects.barriers i barrier })
+named_kept table objects i barrier was life named =
+    with_barriers table objects table.barriers (with_nth objects.barriers i barrier) named (slots_put no_barrier is_barrier table.barriers objects.barriers i barrier was life (barriers_named table objects named))
 
--- a thread that lives is put back where one lives
-pub named_put : (table : Table) (threads : List Thread) (barriers : List BarrierState) (t : ℕ) (thread : Thread) → has_begun (nth no_thread threads t).life ≡ true → has_begun thread.life ≡ true → AreNamed table threads barriers → AreNamed table (with_nth threads t thread) barriers
-named_put table threads barriers t thread was life named =
-    with_tasks table threads barriers table.tasks (with_nth threads t thread) named (slots_put no_thread (λ (x : Thread). has_begun x.life) table.tasks threads t thread was life (tasks_of table threads barriers named))
+-- a barrier of the first free index lives then
+pub named_placed : (table : Table) (objects : Objects) (index : ℕ) (free : List ℕ) (name : ℕ) (barrier : BarrierState) → AreNamed table objects → length objects.barriers ≡ 64 → table.barriers.free ≡ index ∷ free → barrier.live ≡ true → AreNamed (with_names Barrier (taken table.barriers index free name) table) (record objects { barriers = with_nth objects.barriers index barrier })
+named_placed table objects index free name barrier named size is life =
+    with_barriers table objects (taken table.barriers index free name) (with_nth objects.barriers index barrier) named (slots_made no_barrier is_barrier table.barriers objects.barriers index free name barrier size is life (barriers_named table objects named))
 
--- so is a barrier
-pub named_kept : (table : Table) (threads : List Thread) (barriers : List BarrierState) (i : ℕ) (barrier : BarrierState) → (nth no_barrier barriers i).live ≡ true → barrier.live ≡ true → AreNamed table threads barriers → AreNamed table threads (with_nth barriers i barrier)
-named_kept table threads barriers i barrier was life named =
-    with_barriers table threads barriers table.barriers (with_nth barriers i barrier) named (slots_put no_barrier (λ (x : BarrierState). x.live) table.barriers barriers i barrier was life (barriers_named table threads barriers named))
+-- a barrier that lived doesn't any more, its index is free, and nothing is left of it
+pub named_vacated : (table : Table) (objects : Objects) (i : ℕ) → AreNamed table objects → length objects.barriers ≡ 64 → (nth no_barrier objects.barriers i).live ≡ true → AreNamed (with_names Barrier (given_back table.barriers i) table) (record objects { barriers = with_nth objects.barriers i no_barrier })
+named_vacated table objects i named size life =
+    with_barriers table objects (given_back table.barriers i) (with_nth objects.barriers i no_barrier) named (slots_ended no_barrier is_barrier table.barriers objects.barriers i size refl life (barriers_named table objects named))
 
--- the first free index of tasks is one of the 64, and no task of it lives
-pub first_free : (table : Table) (threads : List Thread) (barriers : List BarrierState) (index : ℕ) (free : List ℕ) → AreNamed table threads barriers → table.tasks.free ≡ index ∷ free → IsFree table.tasks (begun_in threads barriers Task) index
-first_free table threads barriers index free named is = named_free table.tasks (begun_in threads barriers Task) index free (named.class Task) is
+-- ---- partitions
 
--- so it is with barriers
-pub first_place : (table : Table) (threads : List Thread) (barriers : List BarrierState) (index : ℕ) (free : List ℕ) → AreNamed table threads barriers → table.barriers.free ≡ index ∷ free → IsFree table.barriers (begun_in threads barriers Barrier) index
-first_place table threads barriers index free named is = named_free table.barriers (begun_in threads barriers Barrier) index free (named.class Barrier) is
+abbrev is_partition : PartitionState → Bool
+is_partition partition = partition.live
 
--- a task of the first free index lives then
-pub named_made : (table : Table) (threads : List Thread) (barriers : List BarrierState) (index : ℕ) (free : List ℕ) (name : ℕ) (thread : Thread) → AreNamed table threads barriers → length threads ≡ 64 → table.tasks.free ≡ index ∷ free → has_begun thread.life ≡ true → AreNamed (with_names Task (taken table.tasks index free name) table) (with_nth threads index thread) barriers
-named_made table threads barriers index free name thread named size is life =
-    with_tasks table threads barriers (taken table.tasks index free name) (with_nth threads index thread) named (slots_made no_thread (λ (x : Thread). has_begun x.life) table.tasks threads index free name thread size is life (tasks_of table threads barriers named))
+partitions_named : (table : Table) (objects : Objects) → AreNamed table objects → AreSlots no_partition is_partition table.partitions objects.partitions
+partitions_named table objects named = record { class = named.class Partition; bare = named.unused }
 
--- so does a barrier
-pub named_placed : (table : Table) (threads : List Thread) (barriers : List BarrierState) (index : ℕ) (free : List ℕ) (name : ℕ) (barrier : BarrierState) → AreNamed table threads barriers → length barriers ≡ 64 → table.barriers.free ≡ index ∷ free → barrier.live ≡ true → AreNamed (with_names Barrier (taken table.barriers index free name) table) threads (with_nth barriers index barrier)
-named_placed table threads barriers index free name barrier named size is life =
-    with_barriers table threads barriers (taken table.barriers index free name) (with_nth barriers index barrier) named (slots_made no_barrier (λ (x : BarrierState). x.live) table.barriers barriers index free name barrier size is life (barriers_named table threads barriers named))
+with_partitions : (table : Table) (objects : Objects) (names : Names) (partitions : List PartitionState) → AreNamed table objects → AreSlots no_partition is_partition names partitions → AreNamed (with_names Partition names table) (record objects { partitions = partitions })
+with_partitions table objects names partitions named slots = record { class = class; blank = named.blank; bare = named.bare; unused = slots.bare } where
+  class : (c : Class) → IsNamed (names_of c (with_names Partition names table)) (begun_in (record objects { partitions = partitions }) c)
+  class Task = named.class Task
+  class Semaphore = named.class Semaphore
+  class Partition = slots.class
+  class Period = named.class Period
+  class Barrier = named.class Barrier
 
--- a task that lived doesn't any more, its index is free, and nothing is left of it
-pub named_removed : (table : Table) (threads : List Thread) (barriers : List BarrierState) (u : ℕ) → AreNamed table threads barriers → length threads ≡ 64 → has_begun (nth no_thread threads u).life ≡ true → AreNamed (with_names Task (given_back table.tasks u) table) (with_nth threads u no_thread) barriers
-named_removed table threads barriers u named size life =
-    with_tasks table threads barriers (given_back table.tasks u) (with_nth threads u no_thread) named (slots_ended no_thread (λ (x : Thread). has_begun x.life) table.tasks threads u size refl life (tasks_of table threads barriers named))
+-- a partition that lives is put back where one lives
+pub named_stored : (table : Table) (objects : Objects) (i : ℕ) (partition : PartitionState) → (nth no_partition objects.partitions i).live ≡ true → partition.live ≡ true → AreNamed table objects → AreNamed table (record objects { partitions = with_nth objects.partitions i partition })
+named_stored table objects i partition was life named =
+    with_partitions table objects table.partitions (with_nth objects.partitions i partition) named (slots_put no_partition is_partition table.partitions objects.partitions i partition was life (partitions_named table objects named))
 
--- so it is with a barrier
-pub named_vacated : (table : Table) (threads : List Thread) (barriers : List BarrierState) (i : ℕ) → AreNamed table threads barriers → length barriers ≡ 64 → (nth no_barrier barriers i).live ≡ true → AreNamed (with_names Barrier (given_back table.barriers i) table) threads (with_nth barriers i no_barrier)
-named_vacated table threads barriers i named size life =
-    with_barriers table threads barriers (given_back table.barriers i) (with_nth barriers i no_barrier) named (slots_ended no_barrier (λ (x : BarrierState). x.live) table.barriers barriers i size refl life (barriers_named table threads barriers named))
+-- a partition of the first free index lives then
+pub named_divided : (table : Table) (objects : Objects) (index : ℕ) (free : List ℕ) (name : ℕ) (partition : PartitionState) → AreNamed table objects → length objects.partitions ≡ 64 → table.partitions.free ≡ index ∷ free → partition.live ≡ true → AreNamed (with_names Partition (taken table.partitions index free name) table) (record objects { partitions = with_nth objects.partitions index partition })
+named_divided table objects index free name partition named size is life =
+    with_partitions table objects (taken table.partitions index free name) (with_nth objects.partitions index partition) named (slots_made no_partition is_partition table.partitions objects.partitions index free name partition size is life (partitions_named table objects named))
+
+-- a partition that lived doesn't any more, its index is free, and nothing is left of it
+pub named_emptied : (table : Table) (objects : Objects) (i : ℕ) → AreNamed table objects → length objects.partitions ≡ 64 → (nth no_partition objects.partitions i).live ≡ true → AreNamed (with_names Partition (given_back table.partitions i) table) (record objects { partitions = with_nth objects.partitions i no_partition })
+named_emptied table objects i named size life =
+    with_partitions table objects (given_back table.partitions i) (with_nth objects.partitions i no_partition) named (slots_ended no_partition is_partition table.partitions objects.partitions i size refl life (partitions_named table objects named))

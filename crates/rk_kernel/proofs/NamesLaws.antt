@@ -2,11 +2,11 @@
 use Rattle.std.proofs.Common.{◌≡◌, ℕ, ◌≤◌, ◌&&◌, false, cond, nat_le, arith, sym, ◌∙◌}
 use Rattle.std.proofs.lemmas.Bool.Decides.{nat_tests}
 use Rattle.rk_model.specs.declared.ids.Class.{Class}
-use Rattle.rk_model.specs.declared.ids.Class.TheVariants.{Task, Barrier}
+use Rattle.rk_model.specs.declared.ids.Class.TheVariants.{Task, Barrier, Partition}
 use Rattle.rk_model.specs.Names.{lives}
-use Rattle.rk_model.specs.State.{Plain, no_thread, no_barrier, thread_at, barrier_at}
+use Rattle.rk_model.specs.State.{Plain, objects_of, no_thread, no_barrier, no_partition, thread_at, barrier_at, partition_at}
 use Rattle.rk_model.specs.Directives.Objects.{names_in}
-use Rattle.rk_kernel.specs.SchedulingLaws.{HasNames, NamesAndObjectsAgree, NothingIsLeftOfDeletedTasks, NothingIsLeftOfDeletedBarriers}
+use Rattle.rk_kernel.specs.SchedulingLaws.{HasNames, NamesAndObjectsAgree, NothingIsLeftOfDeletedTasks, NothingIsLeftOfDeletedBarriers, NothingIsLeftOfDeletedPartitions}
 use Rattle.rk_kernel.specs.Sound.{IsSound}
 use Rattle.rk_kernel.proofs.NamesAgreeLemmas.{object_lives}
 use Rattle.rk_kernel.proofs.HistoryLemmas.{sound_after}
@@ -17,20 +17,26 @@ once_within n index split low high = grind (arith, nat_tests, split, low, high)
 has_names : (k : Plain) (class : Class) → IsSound k → HasNames k class
 has_names k class sound = record {
   once = λ index low high. once_within _ index ((sound.named.class class).split index) low high;
-  begun = λ index. object_lives k.table k.threads k.barriers class index sound.named;
+  begun = λ index. object_lives k.table (objects_of k) class index sound.named;
 }
 
 pub names_agree : NamesAndObjectsAgree
 names_agree s xs is legal class = has_names _ class (sound_after s xs is legal)
 
 nothing_left : (k : Plain) (t : ℕ) → IsSound k → lives (names_in k Task) t ≡ false → thread_at k t ≡ no_thread
-nothing_left k t sound dead = sound.named.blank t (sym (object_lives k.table k.threads k.barriers Task t sound.named) ∙ dead)
+nothing_left k t sound dead = sound.named.blank t (sym (object_lives k.table (objects_of k) Task t sound.named) ∙ dead)
 
 pub deleted_left : NothingIsLeftOfDeletedTasks
 deleted_left s xs is legal t dead = nothing_left _ t (sound_after s xs is legal) dead
 
 no_barrier_left : (k : Plain) (i : ℕ) → IsSound k → lives (names_in k Barrier) i ≡ false → barrier_at k i ≡ no_barrier
-no_barrier_left k i sound dead = sound.named.bare i (sym (object_lives k.table k.threads k.barriers Barrier i sound.named) ∙ dead)
+no_barrier_left k i sound dead = sound.named.bare i (sym (object_lives k.table (objects_of k) Barrier i sound.named) ∙ dead)
 
 pub barriers_left : NothingIsLeftOfDeletedBarriers
 barriers_left s xs is legal i dead = no_barrier_left _ i (sound_after s xs is legal) dead
+
+no_partition_left : (k : Plain) (i : ℕ) → IsSound k → lives (names_in k Partition) i ≡ false → partition_at k i ≡ no_partition
+no_partition_left k i sound dead = sound.named.unused i (sym (object_lives k.table (objects_of k) Partition i sound.named) ∙ dead)
+
+pub partitions_left : NothingIsLeftOfDeletedPartitions
+partitions_left s xs is legal i dead = no_partition_left _ i (sound_after s xs is legal) dead

@@ -117,6 +117,7 @@ sound_vacant s within =
     record {
       places = length-places 64 [];
       halls = refl;
+      pools = refl;
       few_clusters = rw size within.few_clusters;
       some_cluster = rw size within.some_cluster;
       few_cpus = rw (cpus-free s.clusters) within.few_cpus;
@@ -138,6 +139,7 @@ gentle_started s within =
       present = refl;
       places = length-places 64 (map (begun s) s.inits) ∙ sym (length-places 64 []);
       halls = refl;
+      pools = refl;
       threads = rw size (All-from_recursion (IsInBounds s (length s.clusters) 0) threads (all_begun s (length s.clusters) 64 s.inits within within.some_cluster within.homes));
       lines = keeps_same (vacant s).clusters;
       timers = all_untimed threads 0 s.clusters;
@@ -164,12 +166,12 @@ with_next threads at thread = let e : at + 1 ≡ suc at = omega arith in rw e re
 
 -- one more init line's task is started
 pub started_more : (s : Scenario) (threads threads' : List Thread) (thread : Thread) (init : Init) (at : ℕ) → at < length s.inits → length s.inits ≤ 64 → init ≡ get_or s.inits at init → thread ≡ begun s init → threads' ≡ with_nth threads (at + 1) thread → threads ≡ places 64 (map (begun s) (take at s.inits)) → threads' ≡ places 64 (map (begun s) (take (at + 1) s.inits))
-started_more s threads threads' thread init at within few is made set told =
+started_more s threads threads' thread init at within few is made set so_far =
     let front = map (begun s) (take at s.inits) in
     let size : at ≡ length front = omega (arith, length-map (take at s.inits) (begun s), length-take at s.inits) in
     let more : map (begun s) (take (at + 1) s.inits) ≡ front ++ begun s init ∷ [] =
     ap (map (begun s)) (take_more s.inits at init within) ∙ map-append (begun s) (take at s.inits) (get_or s.inits at init ∷ []) ∙ ap (λ x. front ++ begun s x ∷ []) (sym is) in
-    set ∙ with_next threads at thread ∙ ap (λ ts. slice_set ts at thread) told ∙ ap (slice_set (places 64 front) at) made ∙ places-push 64 front (begun s init) at size (omega arith) ∙ ap (places 64) (sym more)
+    set ∙ with_next threads at thread ∙ ap (λ ts. slice_set ts at thread) so_far ∙ ap (slice_set (places 64 front) at) made ∙ places-push 64 front (begun s init) at size (omega arith) ∙ ap (places 64) (sym more)
 
 -- behind the first places there is no thread
 place_free : (n : ℕ) (threads : List Thread) (at : ℕ) → length threads ≤ at → get_or (places n threads) at no_thread ≡ no_thread
@@ -187,12 +189,12 @@ begun_in_parts s table parts groups at = record (joined s table parts groups) { 
 
 -- the next task lives nowhere yet,
 pub not_begun : (s : Scenario) (old parts : List ClusterPart) (at index : ℕ) → index ≡ at + 1 → ((table : Table) (groups : List GroupPart) → joined s table parts groups ≡ begun_in_parts s table old groups at) → has_begun (thread_lent parts index).life ≡ false
-not_begun s old parts at index is told =
+not_begun s old parts at index is so_far =
     let behind : at + 1 ≡ suc at = omega arith in
     let front = map (begun s) (take at s.inits) in
     let few : length front ≤ at = omega (arith, length-map (take at s.inits) (begun s), length-take at s.inits) in
     let none : thread_lent parts index ≡ no_thread =
-    ap (thread_lent parts) (is ∙ behind) ∙ ap (λ (k : Plain). thread_at k (suc at)) (told no_objects []) ∙ place_free 64 front at few in
+    ap (thread_lent parts) (is ∙ behind) ∙ ap (λ (k : Plain). thread_at k (suc at)) (so_far no_objects []) ∙ place_free 64 front at few in
     ap (λ (x : Thread). has_begun x.life) none
 
 -- its home is one of the clusters,
@@ -206,12 +208,12 @@ home_known s init at thread within less is made =
 -- and then it is started.
 pub started_next : (s : Scenario) (table : Table) (groups : List GroupPart) (old parts next : List ClusterPart) (index : ℕ) (thread : Thread) (init : Init) (at : ℕ) → at < length s.inits → length s.inits ≤ 64 → init ≡ get_or s.inits at init → thread ≡ begun s init → index ≡ at + 1 →
     joined s table next groups ≡ put_thread (joined s table parts groups) index thread → joined s table parts groups ≡ begun_in_parts s table old groups at → joined s table next groups ≡ begun_in_parts s table old groups (at + 1)
-started_next s table groups old parts next index thread init at within few is made place put told =
+started_next s table groups old parts next index thread init at within few is made place put so_far =
     let front = places 64 (map (begun s) (take at s.inits)) in
-    put ∙ ap (λ k. put_thread k index thread) told
+    put ∙ ap (λ k. put_thread k index thread) so_far
     ∙ ap (λ (ts : List Thread). (let k : Plain = record (joined s table old groups) { threads = ts } in k)) (started_more s front (with_nth front index thread) thread init at within few is made (ap (λ i. with_nth front i thread) place) refl)
 
 -- At the end the tasks of all init lines are started.
 pub started_all : (s : Scenario) (table : Table) (groups : List GroupPart) (old parts : List ClusterPart) (at : ℕ) → length s.inits ≤ at → joined s table parts groups ≡ begun_in_parts s table old groups at → joined s table parts groups ≡ (let k : Plain = record (joined s table old groups) { threads = places 64 (map (begun s) s.inits) } in k)
-started_all s table groups old parts at whole told =
-    told ∙ ap (λ (inits : List Init). (let k : Plain = record (joined s table old groups) { threads = places 64 (map (begun s) inits) } in k)) (take_all at s.inits whole)
+started_all s table groups old parts at whole so_far =
+    so_far ∙ ap (λ (inits : List Init). (let k : Plain = record (joined s table old groups) { threads = places 64 (map (begun s) inits) } in k)) (take_all at s.inits whole)

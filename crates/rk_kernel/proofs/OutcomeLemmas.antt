@@ -21,7 +21,7 @@ use Rattle.rk_model.specs.Directives.Outcomes.{Outcome, Refused, Done, Waiting, 
 use Rattle.rk_model.specs.Directives.Waits.{Object, object_of_wait, is_for, arrivals_in, enter, start_wait, begin_limited}
 use Rattle.rk_kernel.specs.Calls.{IsActing, IsCaller}
 use Rattle.rk_kernel.specs.SchedulingLaws.{is_refused}
-use Rattle.rk_kernel.specs.Sound.{IsInBounds, IsGentle, waits_in, is_asleep}
+use Rattle.rk_kernel.specs.Sound.{IsInBounds, IsGentle, waits_in, is_asleep, is_in_call}
 use Rattle.rk_kernel.proofs.ThreadBoundsLemmas.{bounds_at}
 use Rattle.rk_model.proofs.IndexLemmas.{nth-with_same}
 use Rattle.rk_kernel.proofs.TimerLemmas.{timers_of, times-push}
@@ -157,3 +157,12 @@ gentle_limited k t wait ticks caller there sleeps =
 
     home_is : (h : ℕ) → ((eqb h h) && true) ≡ true
     home_is h = grind (arith, nat_tests)
+
+-- a caller that is as before can go on
+pub stays_as : (k next : Plain) (t : ℕ) → IsCaller k t → IsGentle k next → thread_at next t ≡ thread_at k t → Stays k next t
+stays_as k next t caller gentle is = record {
+  gentle = gentle;
+  lives = ap (λ (x : Thread). has_begun x.life) is ∙ ap has_begun caller.acts.started;
+  line = subst (λ (x : Thread). x.line ≤ 1000) (sym is) caller.line;
+  free = ap (λ (x : Thread). is_in_call x.wait x.finished) is ∙ (rw (caller.acts.waits_not, caller.returns_not) refl);
+}

@@ -18,7 +18,7 @@ use Rattle.rk_model.specs.Text.Scenarios.{cpus_in}
 use Rattle.rk_parts.proofs.LentSeatLemmas.{cpu_count_joined}
 use Rattle.rk_parts.proofs.PutLemmas.{length_clusters}
 use Rattle.rk_parts.proofs.SettledPartLemmas.{same_stored}
-use Rattle.rk_parts.proofs.WholeLemmas.{Keeps, lent_whole, ticks_framed, numbers_framed, whole_settled, plain_settled, all_noted_settled}
+use Rattle.rk_parts.proofs.WholeLemmas.{Keeps, lent_whole, ticks_framed, numbers_framed, partition_numbers_framed, whole_settled, plain_settled, all_noted_settled}
 use Rattle.rk_kernel.specs.Does.{Untouched, untouched}
 use Rattle.rk_kernel.specs.Ready.{IsReady}
 use Rattle.rk_kernel.specs.Sound.{IsSound, IsGentle}
@@ -61,6 +61,7 @@ whole_kept old all whole present kept rest =
       numbers = λ c low. ap (λ (x : Stored). x.lined.number) (same_stored old.clusters all.clusters c store) ∙ whole.numbers c low;
       laid = subst (λ (s : Scenario). AreLaid s.clusters (layouts all.clusters)) (sym same) (subst (AreLaid old.scenario.clusters) (sym lie) whole.laid);
       groups = numbers_framed old.groups all.groups framed ∙ whole.groups;
+      partitions = partition_numbers_framed old.groups all.groups framed ∙ whole.partitions;
       time = record {
         clusters = ap (λ (ss : List Stored). ticks_of ss) store ∙ whole.time.clusters ∙ ap (replicate 4) (sym present);
         groups = ticks_framed old.groups all.groups framed ∙ whole.time.groups ∙ ap (replicate 4) (sym present);

@@ -12,15 +12,15 @@ lowest_suc m n k x next e a = rw e (ap (lowest_on (lowest_from m)) a)
 
 -- the run so far goes on by one entry, which isn't the last
 pub lowest_goes_on : (done all : List Entry) (i n : ℕ) (k : Plain) (x : Entry) (next : Plain) → i < n → act k (turn k) ≡ Some (let a : Act = record { entry = x; next = next } in a) → is_end x.what ≡ false → done ++ lowest_from (n - i) k ≡ all → (done ++ x ∷ []) ++ lowest_from (n - (i + 1)) next ≡ all
-lowest_goes_on done all i n k x next h a more told =
+lowest_goes_on done all i n k x next h a more so_far =
     let e = lowest_suc (n - (i + 1)) (n - i) k x next (omega arith) a in
-    rw append_assoc (rw (e, more) at told)
+    rw append_assoc (rw (e, more) at so_far)
 
 -- the run so far ends with one entry
 pub lowest_ends : (done all : List Entry) (i n : ℕ) (k : Plain) (x : Entry) (next : Plain) → i < n → act k (turn k) ≡ Some (let a : Act = record { entry = x; next = next } in a) → is_end x.what ≡ true → done ++ lowest_from (n - i) k ≡ all → done ++ x ∷ [] ≡ all
-lowest_ends done all i n k x next h a last told =
+lowest_ends done all i n k x next h a last so_far =
     let e = lowest_suc (n - (i + 1)) (n - i) k x next (omega arith) a in
-    rw (e, last) at told
+    rw (e, last) at so_far
 
 pub not_end : (w : What) → (w ≡ End → ⊥) → is_end w ≡ false
 not_end Call h = refl

@@ -98,6 +98,7 @@ sound_settled k next last sound gentle =
     record {
       places = gentle.places ∙ sound.places;
       halls = gentle.halls ∙ sound.halls;
+      pools = gentle.pools ∙ sound.pools;
       few_clusters = rw same_length sound.few_clusters;
       some_cluster = rw same_length sound.some_cluster;
       few_cpus = rw (cpus-settled, cpus-kept k.clusters next.clusters gentle.lines) sound.few_cpus;

@@ -9,7 +9,7 @@ use Rattle.rk_model.specs.declared.state.Thread.{Thread}
 use Rattle.rk_model.specs.declared.state.Wait.{Wait}
 use Rattle.rk_model.specs.declared.state.Wait.TheVariants.{ForTime, ForEvents, AtBarrier}
 use Rattle.rk_model.specs.Lists.{times}
-use Rattle.rk_model.specs.State.{Plain, ClusterState, no_thread, thread_at, cluster_at}
+use Rattle.rk_model.specs.State.{Plain, ClusterState, objects_of, no_thread, thread_at, cluster_at}
 use Rattle.rk_model.specs.Scheduling.Priorities.{is_eligible, is_started, is_no_wait, spins_in}
 use Rattle.rk_model.specs.Directives.Objects.{has_begun}
 use Rattle.rk_model.specs.Directives.Waits.{object_of_wait, is_for}
@@ -139,6 +139,7 @@ pub sound_pass : (k : Plain) → IsSound k → k.present < k.scenario.horizon �
 sound_pass k sound below = record {
   places = length-charge_from k 1 k.threads ∙ sound.places;
   halls = sound.halls;
+  pools = sound.pools;
   few_clusters = sound.few_clusters;
   some_cluster = sound.some_cluster;
   few_cpus = sound.few_cpus;
@@ -147,7 +148,7 @@ sound_pass k sound below = record {
   bodies = sound.bodies;
   threads = All-from_recursion (IsInBounds k.scenario (length k.clusters) (k.present + 1)) _ (charge_bounds k (length k.clusters) 1 k.threads sound.bodies (recursion_from_All (IsInBounds k.scenario (length k.clusters) k.present) k.threads sound.threads));
   clusters = sound_clusters k 0 k.clusters sound.clusters;
-  named = named_alike k.table k.threads (pass k).threads k.barriers k.barriers (begun-pass k) (λ u. refl) (λ t none. passed_none k t (sound.named.blank t (sym (begun-pass k t) ∙ none))) sound.named.bare sound.named;
+  named = named_alike k.table (objects_of k) (pass k).threads (begun-pass k) (λ t none. passed_none k t (sound.named.blank t (sym (begun-pass k t) ∙ none))) sound.named;
   tied = record {
     queued = λ t apart object. sound.tied.queued t apart object ∙ ap (λ w. cond (is_for (object_of_wait w) object) 1 0) (sym (waits-pass k t));
     wakes = λ t apart asleep. subst (λ d. 1 ≤ times_armed (OfThread t) (cluster_at k d).timers) (sym (homes-pass k t)) (sound.tied.wakes t apart (sym (ap is_asleep (waits-pass k t)) ∙ asleep));

@@ -5,7 +5,7 @@ use Rattle.std.proofs.lemmas.List.{length-replicate, length-map, get_or-map, get
 use Rattle.rk_model.specs.declared.scenario.Scenario.{Scenario}
 use Rattle.rk_model.specs.declared.settling.Standing.{Standing}
 use Rattle.rk_model.specs.declared.state.Thread.{Thread}
-use Rattle.rk_model.specs.State.{BarrierState, no_thread, no_barrier}
+use Rattle.rk_model.specs.State.{no_thread, no_barrier, no_partition}
 use Rattle.rk_model.specs.Directives.Objects.{has_begun}
 use Rattle.rk_model.specs.Scheduling.Priorities.{no_standing}
 use Rattle.rk_model.specs.Histories.{places, free_cluster, vacant}
@@ -15,11 +15,12 @@ use Rattle.rk_parts.specs.declared.parts.ClusterPart.{ClusterPart}
 use Rattle.rk_parts.specs.declared.parts.AllParts.{AllParts}
 use Rattle.rk_parts.specs.declared.parts.GroupPart.{GroupPart}
 use Rattle.rk_parts.specs.Threads.{own_standing}
+use Rattle.rk_partition.specs.Partitions.{none_live as no_partitions, stored_at as partition_in}
 use Rattle.rk_signal.specs.Barriers.{none_live, no_stored, group_of, stored_at}
-use Rattle.rk_parts.specs.Joined.{listed, cluster_of, placed_in, lives_in, held, numbered, present_of, threads_of, barrier_of, barrier_held, barriers_of, clusters_of, clusters_by, plain_of}
+use Rattle.rk_parts.specs.Joined.{listed, cluster_of, placed_in, lives_in, held, numbered, present_of, threads_of, barrier_of, barrier_held, barriers_of, partition_held, partitions_of, clusters_of, clusters_by, plain_of}
 use Rattle.rk_parts.specs.Lent.{AreLaid, layouts, stored}
 use Rattle.rk_parts.specs.Noted.{no_part, part_at, standings_in, key_of, IsKeyed, AreNoted, bare}
-use Rattle.rk_parts.specs.Whole.{ticks_of, ticks_in, numbers_in, AreWhole}
+use Rattle.rk_parts.specs.Whole.{ticks_of, ticks_in, numbers_in, partition_numbers, AreWhole}
 use Rattle.rk_parts.proofs.ListedLemmas.{length-listed, get_or-listed}
 use Rattle.rk_parts.proofs.HeldLemmas.{held_nowhere, lives_nowhere, no_part_lives}
 use Rattle.rk_parts.proofs.LayoutLemmas.{Lie, laid}
@@ -148,23 +149,34 @@ noted_vacant count counts parts vacant = record {
 
 -- ---- the groups
 
--- no barrier is held by vacant groups
-held_none : (i : ℕ) → barrier_held vacant_groups i ≡ no_barrier
-held_none i = by (0 == group_of i) (placed 0) (by (1 == group_of i) (placed 1) (by (2 == group_of i) (placed 2) (by (3 == group_of i) (placed 3) refl))) where
+-- the first of some that is one of them is none, where each is
+or_none : {X : Type 0} (none : X) (b : Bool) {x rest : X} → x ≡ none → rest ≡ none → cond b x rest ≡ none
+or_none none true here more = here
+or_none none false here more = more
+
+listed_no : {X : Type 0} (none : X) (f : ℕ → X) (a n : ℕ) → ((i : ℕ) → f i ≡ none) → listed f a n ≡ replicate n none
+listed_no none f a zero is = refl
+listed_no none f a (suc n) is = ap (λ x. x ∷ listed f (a + 1) n) (is a) ∙ ap (λ xs. none ∷ xs) (listed_no none f (a + 1) n is)
+
+-- no barrier is held by vacant groups,
+no_barrier_held : (i : ℕ) → barrier_held vacant_groups i ≡ no_barrier
+no_barrier_held i = or_none no_barrier (0 == group_of i) (placed 0) (or_none no_barrier (1 == group_of i) (placed 1) (or_none no_barrier (2 == group_of i) (placed 2) (or_none no_barrier (3 == group_of i) (placed 3) refl))) where
   placed : (number : ℕ) → barrier_of (stored_at (none_live number) i) ≡ no_barrier
   placed number = ap barrier_of (nth_replicate no_stored 64 i)
 
-  by : (b : Bool) {x rest : BarrierState} → x ≡ no_barrier → rest ≡ no_barrier → cond b x rest ≡ no_barrier
-  by true here more = here
-  by false here more = more
-
-listed_no : (f : ℕ → BarrierState) (a n : ℕ) → ((i : ℕ) → f i ≡ no_barrier) → listed f a n ≡ replicate n no_barrier
-listed_no f a zero none = refl
-listed_no f a (suc n) none = ap (λ x. x ∷ listed f (a + 1) n) (none a) ∙ ap (λ xs. no_barrier ∷ xs) (listed_no f (a + 1) n none)
-
 barriers_vacant : (groups : List GroupPart) → groups ≡ vacant_groups → barriers_of groups ≡ replicate 64 no_barrier
 unfolding barriers_of
-barriers_vacant groups made = ap (λ (gs : List GroupPart). listed (barrier_held gs) 1 64) made ∙ listed_no (barrier_held vacant_groups) 1 64 held_none
+barriers_vacant groups made = ap (λ (gs : List GroupPart). listed (barrier_held gs) 1 64) made ∙ listed_no no_barrier (barrier_held vacant_groups) 1 64 no_barrier_held
+
+-- and no partition
+no_partition_held : (i : ℕ) → partition_held vacant_groups i ≡ no_partition
+no_partition_held i = or_none no_partition (0 == group_of i) (placed 0) (or_none no_partition (1 == group_of i) (placed 1) (or_none no_partition (2 == group_of i) (placed 2) (or_none no_partition (3 == group_of i) (placed 3) refl))) where
+  placed : (number : ℕ) → partition_in (no_partitions number) i ≡ no_partition
+  placed number = nth_replicate no_partition 64 i
+
+partitions_vacant : (groups : List GroupPart) → groups ≡ vacant_groups → partitions_of groups ≡ replicate 64 no_partition
+unfolding partitions_of
+partitions_vacant groups made = ap (λ (gs : List GroupPart). listed (partition_held gs) 1 64) made ∙ listed_no no_partition (partition_held vacant_groups) 1 64 no_partition_held
 
 -- ---- the parts that were made
 
@@ -187,7 +199,8 @@ plain_made s all made few =
     let present = present_made s all made in
     let threads = threads_vacant s.clusters all.clusters vacant in
     let barriers = barriers_vacant all.groups made.groups in
-    λ i. record { scenario = made.scenario i; present = present i; clusters = clusters i; threads = threads i; barriers = barriers i; table = made.names i }
+    let partitions = partitions_vacant all.groups made.groups in
+    λ i. record { scenario = made.scenario i; present = present i; clusters = clusters i; threads = threads i; barriers = barriers i; partitions = partitions i; table = made.names i }
 
 -- are whole,
 pub whole_made : (s : Scenario) (all : AllParts) → AreMade s all → AreWhole all
@@ -200,6 +213,7 @@ whole_made s all made =
       numbers = λ c low. number_vacant s.clusters all.clusters c vacant low;
       laid = subst (λ (t : Scenario). AreLaid t.clusters (layouts all.clusters)) (sym made.scenario) (laid s.clusters all.clusters (lie_vacant s.clusters all.clusters vacant));
       groups = ap (λ (gs : List GroupPart). numbers_in gs) made.groups;
+      partitions = ap (λ (gs : List GroupPart). partition_numbers gs) made.groups;
       time = record {
         clusters = ticks ∙ ap (replicate 4) (sym present);
         groups = ap (λ (gs : List GroupPart). ticks_in gs) made.groups ∙ ap (replicate 4) (sym present);

@@ -1,13 +1,15 @@
 -- What the rows of the kernel do to the parts that are lent, against what they come to.
-use Rattle.std.specs.Prelude.{ℕ, ◌≡◌, List, [], ◌∷◌, Bool, true, false, Option, Result, Ok, Err, if◌then◌else◌}
+use Rattle.std.specs.Prelude.{ℕ, ◌≡◌, List, [], ◌∷◌, Bool, true, false, Option, None, Result, Ok, Err, if◌then◌else◌}
 use Rattle.std.specs.List.{AllByRecursion}
 use Rattle.rk_model.specs.declared.entry.Answer.{Answer}
+use Rattle.rk_model.specs.declared.entry.Reply.{Reply}
 use Rattle.rk_model.specs.declared.entry.Answer.TheVariants as told
 use Rattle.rk_model.specs.declared.ids.Class.{Class}
 use Rattle.rk_model.specs.declared.scenario.Scenario.{Scenario}
 use Rattle.rk_model.specs.declared.state.Armer.{Armer}
 use Rattle.rk_model.specs.declared.state.Armer.TheVariants.{Thread as OfThread, Period as OfPeriod}
 use Rattle.rk_model.specs.declared.status.Status.{Status}
+use Rattle.rk_model.specs.declared.status.Status.TheVariants.{Successful}
 use Rattle.rk_model.specs.Ids.{id_of}
 use Rattle.rk_model.specs.Names.{Table, no_objects}
 use Rattle.rk_model.specs.State.{Plain}
@@ -133,6 +135,14 @@ IsFirst index (first ∷ more) = first ≡ index
 abbrev pub HasLife : List ClusterPart → Armer → Type 0
 HasLife parts (OfThread t) = has_begun (thread_lent parts t).life ≡ true
 HasLife parts (OfPeriod i) = Unit {0}
+
+-- what a caller is answered where the manager of an object has given this status and out number, which isn't that it waits: it is done, or refused
+abbrev pub answered_by : Status → ℕ → Answer
+answered_by Successful out = told.Done Successful out None
+answered_by status out = told.Refused status
+
+abbrev pub answered : Reply → Answer
+answered reply = answered_by reply.status reply.out
 
 -- whether the caller goes on after an answer
 abbrev pub goes_on_after : Answer → Bool

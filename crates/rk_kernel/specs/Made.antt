@@ -6,6 +6,7 @@ use Rattle.rk_cluster.specs.Clusters.{empty_cluster}
 use Rattle.rk_parts.specs.declared.parts.ClusterPart.{ClusterPart}
 use Rattle.rk_parts.specs.declared.parts.GroupPart.{GroupPart}
 use Rattle.rk_signal.specs.Barriers.{none_live}
+use Rattle.rk_partition.specs.Partitions.{none_live as no_partitions}
 use Rattle.rk_parts.specs.Threads.{no_threads}
 
 -- the part of a cluster without threads, of so many processors from a first on
@@ -22,7 +23,7 @@ vacant_parts counts = vacant_in counts 0 ∷ vacant_in counts 1 ∷ vacant_in co
 
 -- the part of a group in which no object lives
 abbrev pub vacant_group : ℕ → GroupPart
-vacant_group number = record { present = 0; barriers = none_live number; wakes = [] }
+vacant_group number = record { present = 0; barriers = none_live number; partitions = no_partitions number; wakes = [] }
 
 -- the parts of all groups, in which no object lives
 abbrev pub vacant_groups : List GroupPart

@@ -10,9 +10,9 @@ use Rattle.rk_model.specs.declared.state.Thread.{Thread}
 use Rattle.rk_model.specs.declared.entry.View.TheVariants.{Runs}
 use Rattle.rk_model.specs.Lists.{has, times}
 use Rattle.rk_model.specs.declared.ids.Class.{Class}
-use Rattle.rk_model.specs.declared.ids.Class.TheVariants.{Task, Barrier}
+use Rattle.rk_model.specs.declared.ids.Class.TheVariants.{Task, Barrier, Partition}
 use Rattle.rk_model.specs.Names.{indices, lives}
-use Rattle.rk_model.specs.State.{Plain, ClusterState, no_thread, no_barrier, thread_at, put_thread, barrier_at, op_at, cluster_at}
+use Rattle.rk_model.specs.State.{Plain, ClusterState, no_thread, no_barrier, no_partition, thread_at, put_thread, barrier_at, partition_at, op_at, cluster_at}
 use Rattle.rk_model.specs.Directives.Objects.{names_in, is_live}
 use Rattle.rk_model.specs.Directives.Outcomes.{finished}
 use Rattle.rk_model.specs.Directives.Waits.{Object, object_of_wait, is_for, arrivals_in}
@@ -90,6 +90,10 @@ NothingIsLeftOfDeletedTasks = AfterEach (λ k. (t : ℕ) → lives (names_in k T
 -- Where no barrier has a name, there is none: nothing is left there of one that was deleted.
 abbrev pub NothingIsLeftOfDeletedBarriers : Type 0
 NothingIsLeftOfDeletedBarriers = AfterEach (λ k. (i : ℕ) → lives (names_in k Barrier) i ≡ false → barrier_at k i ≡ no_barrier)
+
+-- Where no partition has a name, there is none: nothing is left there of one that was deleted.
+abbrev pub NothingIsLeftOfDeletedPartitions : Type 0
+NothingIsLeftOfDeletedPartitions = AfterEach (λ k. (i : ℕ) → lives (names_in k Partition) i ≡ false → partition_at k i ≡ no_partition)
 
 -- how many timers of a thread are armed in these clusters
 abbrev pub timers_of : List ClusterState → ℕ → ℕ

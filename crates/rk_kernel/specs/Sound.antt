@@ -13,7 +13,7 @@ use Rattle.rk_model.specs.declared.state.Wait.TheVariants.{ForTime, ForEvents, A
 use Rattle.rk_model.specs.Lists.{has, times, nth}
 use Rattle.rk_model.specs.Directives.Lines.{kind_at, is_act}
 use Rattle.rk_model.specs.Directives.Waits.{Object, object_of_wait, is_for, arrivals_in}
-use Rattle.rk_model.specs.State.{Plain, ClusterState, BarrierState, no_thread, no_cluster, thread_at, op_at}
+use Rattle.rk_model.specs.State.{Plain, ClusterState, BarrierState, objects_of, no_thread, no_cluster, thread_at, op_at}
 use Rattle.rk_model.specs.Scheduling.Priorities.{is_started, is_eligible}
 use Rattle.rk_model.specs.Scheduling.ReadyQueues.{has_cpu}
 use Rattle.rk_model.specs.Scheduling.Running.{cpu_count}
@@ -135,6 +135,7 @@ but_one t u = u == t
 pub record IsSound (k : Plain) : Type 0 where
   pub places : length k.threads ≡ MOST_OBJECTS
   pub halls : length k.barriers ≡ MOST_OBJECTS
+  pub pools : length k.partitions ≡ MOST_OBJECTS
   pub few_clusters : length k.clusters ≤ MOST_CLUSTERS
   pub some_cluster : 0 < length k.clusters
   pub few_cpus : cpu_count k ≤ MOST_PROCESSORS
@@ -143,7 +144,7 @@ pub record IsSound (k : Plain) : Type 0 where
   pub bodies : AreRunnable k.scenario.bodies
   pub threads : All (IsInBounds k.scenario (length k.clusters) k.present) k.threads
   pub clusters : AllSound k 0 k.clusters
-  pub named : AreNamed k.table k.threads k.barriers
+  pub named : AreNamed k.table (objects_of k)
   pub tied : AreTied k.barriers k.threads k.clusters but_none
 
 -- Each cluster has its line and its processors as before.
@@ -164,10 +165,11 @@ pub record IsGentleBut (k next : Plain) (but : ℕ → Bool) : Type 0 where
   pub present : next.present ≡ k.present
   pub places : length next.threads ≡ length k.threads
   pub halls : length next.barriers ≡ length k.barriers
+  pub pools : length next.partitions ≡ length k.partitions
   pub threads : All (IsInBounds k.scenario (length k.clusters) k.present) next.threads
   pub lines : KeepsLines k.clusters next.clusters
   pub timers : AllTimed next.threads 0 next.clusters
-  pub named : AreNamed next.table next.threads next.barriers
+  pub named : AreNamed next.table (objects_of next)
   pub tied : AreTied next.barriers next.threads next.clusters but
 
 -- A change of a state that settling makes sound again.

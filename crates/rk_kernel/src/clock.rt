@@ -1,6 +1,7 @@
 //! A step of the clock: work is charged, and the timers that are due fire.
 
 ghost use Rattle.std.specs.Prelude.{◌≡◌, ◌<◌, ◌≤◌, None, length};
+ghost use Rattle.rk_model.specs.declared.limits.TheConstants.{MOST_LINES, MOST_TICKS};
 ghost use Rattle.rk_model.specs.declared.scenario.Scenario.{Scenario as ScenarioView};
 ghost use Rattle.rk_model.specs.Directives.Waits.{reply_at_timer};
 ghost use Rattle.rk_model.specs.Scheduling.Running.{least};
@@ -30,8 +31,8 @@ use rk_parts::timers::take_due_of;
 /// The thread after a tick through which it ran.
 fn charged(scenario: &Scenario, thread: Thread) -> Thread
     requires bodies { AreRunnable scenario.now.bodies }
-    requires line { 0 < thread.left → thread.line ≤ 1000 }
-    requires computed { thread.computed ≤ 1000000 }
+    requires line { 0 < thread.left → thread.line ≤ MOST_LINES }
+    requires computed { thread.computed ≤ MOST_TICKS }
     ensures { result ≡ charged scenario.now thread }
 {
     if thread.left == 0 {

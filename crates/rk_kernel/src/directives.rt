@@ -7,6 +7,7 @@ pub(crate) mod barriers;
 pub(crate) mod events;
 pub(crate) mod objects;
 pub(crate) mod outcomes;
+pub(crate) mod partitions;
 pub(crate) mod tasks;
 pub(crate) mod waits;
 
@@ -26,6 +27,9 @@ ghost use Rattle.rk_parts.specs.Whole.{AreWhole};
 
 use barriers::{barrier_create, barrier_delete, barrier_ident, barrier_release, barrier_wait};
 use events::{event_receive, event_send};
+use partitions::{
+    partition_create, partition_delete, partition_get, partition_ident, partition_return,
+};
 use rk_model::{Answer, Op, Reply, Scenario, Thread, ThreadIx};
 use rk_parts::lent::{renew, thread_of};
 use rk_parts::parts::{AllParts, ClusterPart, GroupPart};
@@ -74,6 +78,8 @@ fn perform_narrow(
         Op::EventReceive(set, all, wish, _) => event_receive(clusters, caller, set, all, wish),
         Op::BarrierWait(id, ticks) => barrier_wait(clusters, groups, caller, id, ticks),
         Op::BarrierRelease(id, _) => barrier_release(clusters, groups, caller, id),
+        Op::PartGet(id, _) => partition_get(clusters, groups, caller, id),
+        Op::PartReturn(id, address) => partition_return(clusters, groups, caller, id, address),
         Op::Work(_) => task_exit(clusters, caller),
         Op::Goto(_) => task_exit(clusters, caller),
         Op::TaskCreate(_, _, _)
@@ -81,7 +87,10 @@ fn perform_narrow(
         | Op::TaskDelete(_)
         | Op::BarrierCreate(_, _, _, _)
         | Op::BarrierIdent(_, _)
-        | Op::BarrierDelete(_) => unreachable!(),
+        | Op::BarrierDelete(_)
+        | Op::PartCreate(_, _, _, _, _)
+        | Op::PartIdent(_, _)
+        | Op::PartDelete(_) => unreachable!(),
     }
 }
 
@@ -113,6 +122,22 @@ fn perform(all: &mut AllParts, caller: ThreadIx, op: Op) -> Answer
         Op::BarrierIdent(name, _) => barrier_ident(&all.table.names, name),
         Op::BarrierDelete(id) => barrier_delete(
             &mut all.clusters,
+            &mut all.groups,
+            &mut all.table.names,
+            caller,
+            id,
+        ),
+        Op::PartCreate(name, start, length, size, _) => partition_create(
+            &mut all.groups,
+            &mut all.table.names,
+            name,
+            start,
+            length,
+            size,
+        ),
+        Op::PartIdent(name, _) => partition_ident(&all.table.names, name),
+        Op::PartDelete(id) => partition_delete(
+            &all.clusters,
             &mut all.groups,
             &mut all.table.names,
             caller,

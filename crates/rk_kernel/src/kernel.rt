@@ -1,4 +1,5 @@
 ghost use Rattle.std.specs.Prelude.{◌≡◌, ◌<◌, ◌≤◌, ◌+◌, ℕ, [], length, IfOk, IfSome, Some, None, false};
+ghost use Rattle.rk_model.specs.declared.limits.TheConstants.{MOST_PROCESSORS};
 ghost use Rattle.rk_model.specs.State.{Plain};
 ghost use Rattle.rk_model.specs.Scheduling.Running.{cpu_count, running, caller, least};
 ghost use Rattle.rk_model.specs.Steps.{act, clock_entry};
@@ -117,7 +118,7 @@ pub fn replay(parts: &mut Parts, seat: u8)
 /// The lowest-numbered processor that has a directive, and its thread.
 fn least_in(parts: &Parts) -> Option<Calling>
     ensures least { seat_of result ≡ least parts.now }
-    ensures found { IfSome result (λ calling. (caller parts.now calling.cpu ≡ Some calling.thread) × (calling.cpu < 8)) }
+    ensures found { IfSome result (λ calling. (caller parts.now calling.cpu ≡ Some calling.thread) × (calling.cpu < MOST_PROCESSORS)) }
 {
     least_of(&parts.all.scenario, &parts.all.clusters)
 }
@@ -125,7 +126,7 @@ fn least_in(parts: &Parts) -> Option<Calling>
 /// The directive of a processor's thread.
 fn call_in(parts: &mut Parts, calling: Calling) -> Entry
     requires calls { caller parts.old calling.cpu ≡ Some calling.thread }
-    requires few { calling.cpu < 8 }
+    requires few { calling.cpu < MOST_PROCESSORS }
     ensures { act parts.old calling.cpu ≡ Some (record { entry = result; next = parts.new }) }
 {
     act_by(&mut parts.all, calling.cpu, calling.thread)

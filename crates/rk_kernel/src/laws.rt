@@ -3,7 +3,7 @@
 //! Each speaks of the state after any legal history of a scenario, but for the last two: one speaks
 //! of the planned history, and one of every state.
 
-ghost use Rattle.rk_kernel.specs.SchedulingLaws.{LinesHoldTheirOwn, ProcessorsHaveTheRunners, RunnersAreTheMostUrgent, NoneRunsTwice, NamesAndObjectsAgree, NothingIsLeftOfDeletedTasks, NothingIsLeftOfDeletedBarriers, WaitsAndQueuesAgree, NoneActsAtWork, RefusalsChangeTheCallerAlone, LowestGoesOn};
+ghost use Rattle.rk_kernel.specs.SchedulingLaws.{LinesHoldTheirOwn, ProcessorsHaveTheRunners, RunnersAreTheMostUrgent, NoneRunsTwice, NamesAndObjectsAgree, NothingIsLeftOfDeletedTasks, NothingIsLeftOfDeletedBarriers, NothingIsLeftOfDeletedPartitions, WaitsAndQueuesAgree, NoneActsAtWork, RefusalsChangeTheCallerAlone, LowestGoesOn};
 ghost use Rattle.rk_kernel.specs.Cut.{SuspendNeedsItsClusterAlone};
 
 /// The ready queue of each cluster holds exactly the eligible threads of that home, each once.
@@ -41,6 +41,11 @@ pub fn nothing_is_left_of_deleted_tasks()
 /// Where no barrier has a name, there is none: nothing is left there of one that was deleted.
 pub fn nothing_is_left_of_deleted_barriers()
     ensures { NothingIsLeftOfDeletedBarriers }
+{}
+
+/// Where no partition has a name, there is none: nothing is left there of one that was deleted.
+pub fn nothing_is_left_of_deleted_partitions()
+    ensures { NothingIsLeftOfDeletedPartitions }
 {}
 
 /// A thread stands in the queue of an object, once, exactly where it waits for that object, and in no

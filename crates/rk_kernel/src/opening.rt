@@ -2,6 +2,7 @@
 
 ghost use Rattle.std.specs.Prelude.{◌≡◌, ◌<◌, ◌≤◌, ◌+◌, ℕ, List, [], IfOk, IsSome, length, map};
 ghost use Rattle.std.specs.List.{AllByRecursion, slice_index_or};
+ghost use Rattle.rk_model.specs.declared.limits.TheConstants.{MOST_CLUSTERS, MOST_OBJECTS, MOST_PROCESSORS};
 ghost use Rattle.rk_model.specs.declared.scenario.Init.{Init as InitLine};
 ghost use Rattle.rk_model.specs.Names.{Table as TableView, no_objects};
 ghost use Rattle.rk_model.specs.Histories.{begun, places, vacant, begun_names, opening};
@@ -17,6 +18,7 @@ ghost use Rattle.rk_kernel.specs.Ready.{IsReady};
 
 use rk_cluster::{Cluster, Moves};
 use rk_model::{Body, Class, Init, Items, Life, NoMemory, Scenario, Thread, ThreadIx, Wakes};
+use rk_partition::PartitionStore;
 use rk_parts::arrival::arrive;
 use rk_parts::lent::make;
 use rk_parts::parts::{AllParts, ClusterPart, GroupPart, TablePart};
@@ -74,8 +76,8 @@ fn count_at(counts: &[u8], cluster: usize) -> u8
 
 /// The part of a cluster of so many processors, none of which has a thread.
 fn make_cluster(alloc: Global, number: u8, first: u8, count: u8) -> Result<ClusterPart, NoMemory>
-    requires number { number < 4 }
-    requires cpus { first + count ≤ 8 }
+    requires number { number < MOST_CLUSTERS }
+    requires cpus { first + count ≤ MOST_PROCESSORS }
     ensures { IfOk result (λ part. bare part ≡ vacant_part number first count) }
 {
     Ok(ClusterPart {
@@ -90,8 +92,8 @@ fn make_cluster(alloc: Global, number: u8, first: u8, count: u8) -> Result<Clust
 /// The parts of the clusters, of which no processor has a thread. Their processors are numbered
 /// through all of them.
 fn make_clusters(alloc: Global, counts: &[u8]) -> Result<[ClusterPart; 4], NoMemory>
-    requires clusters { length counts.now ≤ 4 }
-    requires cpus { cpus_in counts.now ≤ 8 }
+    requires clusters { length counts.now ≤ MOST_CLUSTERS }
+    requires cpus { cpus_in counts.now ≤ MOST_PROCESSORS }
     ensures { IfOk result (λ parts. map bare parts ≡ vacant_parts counts.now) }
 {
     let second = count_at(counts, 0);
@@ -113,6 +115,7 @@ fn make_group(alloc: Global, number: u8) -> Result<GroupPart, NoMemory>
     Ok(GroupPart {
         present: 0,
         barriers: BarrierStore::new(alloc, number)?,
+        partitions: PartitionStore::new(alloc, number)?,
         wakes: Wakes::new(alloc)?,
     })
 }
@@ -159,10 +162,10 @@ fn begin(scenario: &Scenario, init: &Init) -> Thread
 /// Starts the tasks of the init lines, each in the part of its home.
 fn start_all(scenario: &Scenario, clusters: &mut [ClusterPart])
     requires within { IsWithinLimits scenario.now }
-    requires none { threads_of clusters.old ≡ places 64 [] }
+    requires none { threads_of clusters.old ≡ places MOST_OBJECTS [] }
     requires laid { AreLaid scenario.now.clusters (layouts clusters.old) }
     requires lent { (c : ℕ) → c < length scenario.now.clusters → IsSome (number_in clusters.old c) }
-    ensures started { (table : TableView) (groups : List GroupView) → joined scenario.now table clusters.new groups ≡ record (joined scenario.now table clusters.old groups) { threads = places 64 (map (begun scenario.now) scenario.now.inits) } }
+    ensures started { (table : TableView) (groups : List GroupView) → joined scenario.now table clusters.new groups ≡ record (joined scenario.now table clusters.old groups) { threads = places MOST_OBJECTS (map (begun scenario.now) scenario.now.inits) } }
     ensures laid { AreLaid scenario.now.clusters (layouts clusters.new) }
     ensures kept { stored clusters.new ≡ stored clusters.old }
 {
@@ -175,7 +178,7 @@ fn start_all(scenario: &Scenario, clusters: &mut [ClusterPart])
 /// Names the tasks of the init lines, which take the first indices.
 fn name_all(table: &mut Table, inits: &[Init])
     requires none { table.old ≡ no_objects }
-    requires few { length inits.now ≤ 64 }
+    requires few { length inits.now ≤ MOST_OBJECTS }
     requires named { AllByRecursion (λ (init : InitLine). 1 ≤ init.name.bits) inits.now }
     ensures { table.new ≡ record no_objects { tasks = begun_names inits.now } }
 {

@@ -2,6 +2,7 @@
 
 ghost use Rattle.std.specs.Prelude.{◌≡◌, ◌<◌, Some};
 ghost use Rattle.std.specs.Option.{option_to_list};
+ghost use Rattle.rk_model.specs.declared.limits.TheConstants.{MOST_PROCESSORS};
 ghost use Rattle.rk_model.specs.Scheduling.Running.{caller};
 ghost use Rattle.rk_model.specs.Scheduling.Settling.{settle};
 ghost use Rattle.rk_model.specs.Directives.Outcomes.{answer_of, after_outcome, last_of};
@@ -67,7 +68,7 @@ pub(crate) fn act_by(all: &mut AllParts, cpu: u8, thread: ThreadIx) -> Entry
 
 /// A step of a processor.
 pub(crate) fn step_core(all: &mut AllParts, cpu: u8) -> CoreStep
-    requires cpu { cpu < 8 }
+    requires cpu { cpu < MOST_PROCESSORS }
     requires ready { IsReady all.old }
     ensures step { IsStep (plain_of all.old) cpu result (plain_of all.new) }
     ensures ready { IsReady all.new }

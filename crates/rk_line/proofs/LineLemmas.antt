@@ -29,7 +29,7 @@ pub threads-with_prio : (t p : ℕ) (line : List Place) → threads (with_prio t
 threads-with_prio t p [] = refl
 threads-with_prio t p (place ∷ line) = rw (same_thread (place.thread == t) p place) (ap (λ (ys : List ℕ). place.thread ∷ ys) (threads-with_prio t p line))
 
--- a thread stands no more often in the line without another
+-- a thread stands no more often in the ready queue without another
 pub times-without-le : (u t : ℕ) (line : List Place) → times u (threads (without t line)) ≤ times u (threads line)
 times-without-le u t line = by (not (u == t)) (times-without key u t line) where
   by : (b : Bool) → times u (threads (without t line)) ≡ cond b (times u (threads line)) 0 → times u (threads (without t line)) ≤ times u (threads line)
@@ -40,7 +40,7 @@ gone_by : (t : ℕ) (place : Place) (line : List Place) (b : Bool) → (place.th
 gone_by t place line true h none = none
 gone_by t place line false h none = rw h none
 
--- the line without a thread hasn't it
+-- the ready queue without a thread hasn't it
 pub gone : (t : ℕ) (line : List Place) → has (threads (without t line)) t ≡ false
 gone t [] = refl
 gone t (place ∷ line) = gone_by t place (without t line) (place.thread == t) refl (gone t line)
@@ -66,11 +66,11 @@ pub prio_there : (front : List Place) (place : Place) (back : List Place) → ti
 prio_there [] place back h = grind (arith, nat_tests)
 prio_there (other ∷ front) place back h = grind (arith, nat_tests, h, prio_there front place back)
 
--- how often a thread stands in a line of two parts, and one place between them
+-- how often a thread stands in a ready queue of two parts, and one place between them
 pub times_split : (t : ℕ) (front : List Place) (place : Place) (back : List Place) → times t (threads (front ++ place ∷ back)) ≡ times t (threads front) + (cond (place.thread == t) 1 0 + times t (threads back))
 times_split t front place back = ap (times t) (threads-append front (place ∷ back)) ∙ times-append t (threads front) (threads (place ∷ back))
 
--- In a line a thread's priority is that of its place.
+-- In a ready queue a thread's priority is that of its place.
 pub prio_place : (front : List Place) (place : Place) (back : List Place) → IsLine (front ++ place ∷ back) → prio_in (front ++ place ∷ back) place.thread ≡ place.prio
 prio_place front place back is =
     let split : times place.thread (threads (front ++ place ∷ back)) ≡ times place.thread (threads front) + (1 + times place.thread (threads back)) =
@@ -82,7 +82,7 @@ pub prio_in-without : (u t : ℕ) (line : List Place) → (u == t) ≡ false →
 prio_in-without u t [] h = refl
 prio_in-without u t (place ∷ line) h = grind (arith, nat_tests, h, prio_in-without u t line)
 
--- a thread of the line has the priority that it was given
+-- a thread of the ready queue has the priority that it was given
 prio_given_by : (t p : ℕ) (place : Place) (line : List Place) (b : Bool) → (place.thread == t) ≡ b → (b || has (threads line) t) ≡ true → (has (threads line) t ≡ true → prio_in line t ≡ p) → prio_in (cond b (record place { prio = p }) place ∷ line) t ≡ p
 prio_given_by t p place line true e h more = rw e refl
 prio_given_by t p place line false e h more = rw e (more h)
@@ -105,7 +105,7 @@ prio_kept u t p (place ∷ line) h = prio_kept_by u t p place (with_prio t p lin
 
 -- Lines:
 
--- a list of places whose threads stand no more often than in a line
+-- a list of places whose threads stand no more often than in a ready queue
 pub line_less : (line next : List Place) → ((t : ℕ) → times t (threads next) ≤ times t (threads line)) → IsLine line → IsLine next
 line_less line next less is = record {
   once = λ t. omega (arith, less t, is.once t);
@@ -139,7 +139,7 @@ line_without t line is = line_less line (without t line) (λ u. times-without-le
 pub line_with_prio : (t p : ℕ) (line : List Place) → IsLine line → IsLine (with_prio t p line)
 line_with_prio t p line is = line_less line (with_prio t p line) (λ u. rw (threads-with_prio t p line) (omega arith)) is
 
--- A line has at most 64 places,
+-- A ready queue has at most 64 places,
 pub line_few : (line : List Place) → IsLine line → length line ≤ 64
 line_few line is = rw length-threads at (length_within 64 (threads line) is.once is.within)
 
@@ -150,7 +150,7 @@ line_room line t is none low high =
     let few : length (place ∷ line) ≤ 64 = line_few (place ∷ line) (line_first line place is none low high) in
     omega (arith, few)
 
--- Where a thread is not in the line, changing it does nothing.
+-- Where a thread is not in the ready queue, changing it does nothing.
 pub with_prio_none : (t p : ℕ) (line : List Place) → has (threads line) t ≡ false → with_prio t p line ≡ line
 with_prio_none t p [] h = refl
 with_prio_none t p (place ∷ line) h = with_prio_by t p place line (place.thread == t) refl h (with_prio_none t p line) where
@@ -175,7 +175,7 @@ changed t p (place ∷ line) once = changed_by t p place line (place.thread == t
 pub free : (places line : List Place) (place : Place) (t p : ℕ) → places ≡ line → place ≡ record { thread = t; prio = p } → has (threads line) t ≡ false → has (threads places) place.thread ≡ false
 free places line place t p same is none = rw (same, is) none
 
--- what a slice of the places tells of the line: where a thread stands, the line without it, and with its other priority
+-- what a slice of the places tells of the ready queue: where a thread stands, the ready queue without it, and with its other priority
 pub there : (t : ℕ) (slice places line : List Place) (at : ℕ) → slice ≡ places → places ≡ line → at ≡ position_at key t slice → has (threads line) t ≡ true → at < length places
 there t slice places line at e f found is = rw (found, e, f) (position_within key t line is)
 

@@ -40,7 +40,7 @@ count_agree key test (place ∷ places) h =
     sum_by-cons (λ u. cond (test (key u)) 1 0) place.thread (threads places)
     ∙ rw (h.0, count_agree key test places h.1) (sym (sum_by-cons (λ (other : Place). cond (test other.prio) 1 0) place places))
 
--- what a sorted line has
+-- what a sorted ready queue has
 length-inserted : (key : ℕ → ℕ) (t : ℕ) (us : List ℕ) → length (inserted key t us) ≡ 1 + length us
 length-inserted key t [] = refl
 length-inserted key t (u ∷ us) = by (nat_lt (key t) (key u)) (length-inserted key t us) where
@@ -60,7 +60,7 @@ get_none [] n h = omega arith
 get_none (x ∷ xs) zero h = let no : ⊥ = cc in absurd no
 get_none (x ∷ xs) (suc n) h = omega (arith, get_none xs n h)
 
--- A line has a thread with n more urgent ones exactly where it has more than n threads.
+-- A ready queue has a thread with n more urgent ones exactly where it has more than n threads.
 pub nth_within : (key : ℕ → ℕ) (n : ℕ) (line : List ℕ) (t : ℕ) → nth_urgent key n line ≡ Some t → n < length line
 nth_within key n line t h = rw length-sorted at (slice_get_within (sorted_line key line) n t (sym ((sort_of key line).found n) ∙ h))
 
@@ -75,7 +75,7 @@ stands_from : (key : ℕ → ℕ) (n : ℕ) (front back : List ℕ) (t : ℕ) �
 stands_from key n front [] t h = cc
 stands_from key n front (u ∷ back) t h = stands_or u t back (ranked_from key n (front ++ u ∷ []) back) (rank key front u back == n) h (stands_from key n (front ++ u ∷ []) back t)
 
--- it is in the line
+-- it is in the ready queue
 pub nth_stands : (key : ℕ → ℕ) (n : ℕ) (line : List ℕ) (t : ℕ) → nth_urgent key n line ≡ Some t → has line t ≡ true
 nth_stands key n line t h = stands_from key n [] line t h
 
@@ -107,7 +107,7 @@ ranked_step line n at d is within =
     let behind = take_more (threads line) at d.thread short in
     rw (more, behind, here, ← rank_at line at d is within) refl
 
--- the search over a slice of the places of a line: it ends where the rank is found,
+-- the search over a slice of the places of a ready queue: it ends where the rank is found,
 pub ranked_found : (slice places line : List Place) (n at : ℕ) (place : Place) (b : Bool) (x : Option ℕ) → slice ≡ places → places ≡ line → IsLine places → at < length slice → place ≡ get_or slice at place →
     b ≡ (more_urgent (take at slice) (prio_at slice at) (drop (at + 1) slice) == n) → b ≡ true →
     ranked_from (prio_in line) n (take at (threads slice)) (drop at (threads slice)) ≡ x → Some place.thread ≡ x
@@ -127,7 +127,7 @@ ranked_further slice places line n at place b x e f is within here test missed b
     let fails : (more_urgent (take at slice) (prio_at slice at) (drop (at + 1) slice) == n) ≡ false = sym test ∙ missed in
     rw (← f, ← e) (sym (rw fails at step) ∙ (rw (← f, ← e) at before))
 
--- At its end it has found none, and the line is too short.
+-- At its end it has found none, and the ready queue is too short.
 pub ranked_past : (slice places line : List Place) (n at : ℕ) → slice ≡ places → places ≡ line → length slice ≤ at → ranked_from (prio_in line) n (take at (threads slice)) (drop at (threads slice)) ≡ nth_urgent (prio_in line) n (threads line) → length line ≤ n
 ranked_past slice places line n at e f past before =
     let short : length (threads slice) ≤ at = rw length-threads past in

@@ -1,5 +1,6 @@
 ghost use Rattle.std.specs.Prelude.{◌≡◌, [], ◌∷◌, ◌++◌, ◌+◌, ◌<◌, ◌≤◌, ◌==◌, IfOk, IfSome, IfNone, true, false, nat_le, length, take, drop, count_by};
 ghost use Rattle.std.specs.List.{slice_index_or};
+ghost use Rattle.rk_model.specs.declared.limits.TheConstants.{MOST_OBJECTS};
 ghost use Rattle.rk_model.specs.Lists.{has};
 ghost use Rattle.rk_model.specs.Scheduling.ReadyQueues.{nth_urgent};
 ghost use Rattle.rk_line.specs.Places.{threads, prio_in, without, with_prio, prio_at, more_urgent};
@@ -35,7 +36,7 @@ impl Place {
     pub fn new(thread: ThreadIx, prio: Prio) -> Place
         ensures value { result ≡ record { thread = thread; prio = prio } }
         ensures low { 1 ≤ result.thread }
-        ensures high { result.thread ≤ 64 }
+        ensures high { result.thread ≤ MOST_OBJECTS }
     {
         // Reading the index tells its range.
         let _index = thread.at();

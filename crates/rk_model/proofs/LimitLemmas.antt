@@ -12,9 +12,9 @@ use Rattle.rk_model.specs.Text.Words.{name_of, is_name_byte}
 use Rattle.rk_model.specs.Text.Forms.{Number, Earlier}
 use Rattle.rk_model.specs.Limits.{GoesOn, IsWithinLimits}
 
-short_bodies : (clusters : ℕ) (front : List Body) (told : List (List (List ℕ))) (bodies : List Body) → AreBodies clusters front told bodies → AllByRecursion (λ (body : Body). length body.lines ≤ 1000) bodies
-short_bodies clusters front told [] are = tt
-short_bodies clusters front told (body ∷ bodies) are = (are.3.few, short_bodies clusters (front ++ body ∷ []) are.1 bodies are.4)
+short_bodies : (clusters : ℕ) (front : List Body) (statements : List (List (List ℕ))) (bodies : List Body) → AreBodies clusters front statements bodies → AllByRecursion (λ (body : Body). length body.lines ≤ 1000) bodies
+short_bodies clusters front statements [] are = tt
+short_bodies clusters front statements (body ∷ bodies) are = (are.3.few, short_bodies clusters (front ++ body ∷ []) are.1 bodies are.4)
 
 found_below : (earlier : List Op) (i : ℕ) → may_be_target (slice_get earlier i) ≡ true → i < length earlier
 found_below [] i is = absurd (false≢true is)
@@ -53,25 +53,25 @@ goes_on known more words (Goto target) is = target_in known.earlier more target 
 goes_on known more words _ is = tt
 
 -- the ops behind the earlier lines of a body
-go_on_from : (all : List Op) (known : Known) (told : List (List (List ℕ))) (ops : List Op) → known.earlier ++ ops ≡ all → AreOps known told ops → AllByRecursion (GoesOn all) ops
+go_on_from : (all : List Op) (known : Known) (statements : List (List (List ℕ))) (ops : List Op) → known.earlier ++ ops ≡ all → AreOps known statements ops → AllByRecursion (GoesOn all) ops
 go_on_from all known [] [] e are = tt
 go_on_from all known [] (op ∷ ops) e are = absurd are
-go_on_from all known (words ∷ told) [] e are = absurd are
-go_on_from all known (words ∷ told) (op ∷ ops) e are = (
+go_on_from all known (words ∷ statements) [] e are = absurd are
+go_on_from all known (words ∷ statements) (op ∷ ops) e are = (
   subst (λ (lines : List Op). GoesOn lines op) e (goes_on known (op ∷ ops) words op are.0),
-  go_on_from all (with_earlier known op) told ops (append_assoc known.earlier (op ∷ []) ops ∙ e) are.1,
+  go_on_from all (with_earlier known op) statements ops (append_assoc known.earlier (op ∷ []) ops ∙ e) are.1,
 )
 
-ops_of : (clusters : ℕ) (front : List Body) (told : List (List (List ℕ))) (bodies : List Body) → AreBodies clusters front told bodies → AllByRecursion (λ (body : Body). AllByRecursion (GoesOn body.lines) body.lines) bodies
-ops_of clusters front told [] are = tt
-ops_of clusters front told (body ∷ bodies) are =
+ops_of : (clusters : ℕ) (front : List Body) (statements : List (List (List ℕ))) (bodies : List Body) → AreBodies clusters front statements bodies → AllByRecursion (λ (body : Body). AllByRecursion (GoesOn body.lines) body.lines) bodies
+ops_of clusters front statements [] are = tt
+ops_of clusters front statements (body ∷ bodies) are =
     (go_on_from body.lines (record { clusters = clusters; bodies = front; own = body.name; earlier = [] }) are.3.inner body.lines refl are.3.ops, ops_of clusters (front ++ body ∷ []) are.1 bodies are.4)
 
-near_homes : (s : Scenario) (told : List (List (List ℕ))) (inits : List Init) → AreInits s told inits → AllByRecursion (λ (init : Init). init.cluster < length s.clusters) inits
+near_homes : (s : Scenario) (statements : List (List (List ℕ))) (inits : List Init) → AreInits s statements inits → AllByRecursion (λ (init : Init). init.cluster < length s.clusters) inits
 near_homes s [] [] are = tt
 near_homes s [] (init ∷ inits) are = absurd are
-near_homes s (words ∷ told) [] are = absurd are
-near_homes s (words ∷ told) (init ∷ inits) are = (are.0.cluster_below, near_homes s told inits are.1)
+near_homes s (words ∷ statements) [] are = absurd are
+near_homes s (words ∷ statements) (init ∷ inits) are = (are.0.cluster_below, near_homes s statements inits are.1)
 
 -- a byte of a name isn't 0
 some_byte : (b : ℕ) → is_name_byte b ≡ true → 1 ≤ b
@@ -99,16 +99,16 @@ some_name (a ∷ b ∷ c ∷ []) n is = let no : ⊥ = cc in absurd no
 some_name (a ∷ b ∷ c ∷ d ∷ []) n is = spelled a b c d n (is_name_byte a && is_name_byte b && is_name_byte c && is_name_byte d) refl is
 some_name (a ∷ b ∷ c ∷ d ∷ e ∷ more) n is = let no : ⊥ = cc in absurd no
 
-some_names : (s : Scenario) (told : List (List (List ℕ))) (inits : List Init) → AreInits s told inits → AllByRecursion (λ (init : Init). 1 ≤ init.name.bits) inits
+some_names : (s : Scenario) (statements : List (List (List ℕ))) (inits : List Init) → AreInits s statements inits → AllByRecursion (λ (init : Init). 1 ≤ init.name.bits) inits
 some_names s [] [] are = tt
 some_names s [] (init ∷ inits) are = absurd are
-some_names s (words ∷ told) [] are = absurd are
-some_names s (words ∷ told) (init ∷ inits) are = (some_name are.0.name init.name.bits are.0.name_is, some_names s told inits are.1)
+some_names s (words ∷ statements) [] are = absurd are
+some_names s (words ∷ statements) (init ∷ inits) are = (some_name are.0.name init.name.bits are.0.name_is, some_names s statements inits are.1)
 
-limit_within : (told : List (List (List ℕ))) (limit : ℕ) → IsLimit told limit → (1 ≤ limit) × (limit ≤ 1000000)
+limit_within : (statements : List (List (List ℕ))) (limit : ℕ) → IsLimit statements limit → (1 ≤ limit) × (limit ≤ 1000000)
 limit_within [] limit is = (omega (arith, is), omega (arith, is))
 limit_within (words ∷ []) limit is = (is.2.low, is.2.high)
-limit_within (words ∷ more ∷ told) limit is = absurd is
+limit_within (words ∷ more ∷ statements) limit is = absurd is
 
 pub limits_of : (s : Scenario) → IsScenario s → IsWithinLimits s
 limits_of s is =

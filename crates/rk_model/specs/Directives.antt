@@ -5,3 +5,4 @@ pub mod Objects
 pub mod Tasks
 pub mod Events
 pub mod Barriers
+pub mod Partitions

@@ -23,6 +23,11 @@ pub const FORMS: &[Op] = &[
     Op::BarrierWait(Target::Own, 0),
     Op::BarrierRelease(Target::Own, 0),
     Op::BarrierDelete(Target::Own),
+    Op::PartCreate(Name { bits: 0 }, 0, 0, 0, 0),
+    Op::PartIdent(Name { bits: 0 }, 0),
+    Op::PartGet(Target::Own, 0),
+    Op::PartReturn(Target::Own, Target::Given(0)),
+    Op::PartDelete(Target::Own),
 ];
 
 impl Op {
@@ -48,6 +53,11 @@ impl Op {
             Op::BarrierWait(_, _) => "barrier.wait",
             Op::BarrierRelease(_, _) => "barrier.release",
             Op::BarrierDelete(_) => "barrier.delete",
+            Op::PartCreate(_, _, _, _, _) => "part.create",
+            Op::PartIdent(_, _) => "part.ident",
+            Op::PartGet(_, _) => "part.get",
+            Op::PartReturn(_, _) => "part.return",
+            Op::PartDelete(_) => "part.delete",
         }
     }
 

@@ -12,6 +12,15 @@ pub const CLOCK: u8 = 8;
 /// The greatest index of an object of a class, and so the most objects of a class that live.
 pub const MOST_OBJECTS: usize = 64;
 
+/// The most buffers of a partition.
+pub const MOST_BUFFERS: usize = 1_024;
+
+/// The bytes of which the start of a partition and the size of its buffers are multiples.
+pub const ALIGNMENT: u32 = 8;
+
+/// How many addresses there are: the memory of a partition ends at most there.
+pub const ADDRESSES: u64 = 4_294_967_296;
+
 /// The number of the least urgent priority. The most urgent is 1.
 pub const LEAST_URGENT: u8 = 255;
 

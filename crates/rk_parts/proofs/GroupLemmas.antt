@@ -1,10 +1,8 @@
 -- The barriers of lent groups, and what a change of one of them does.
-use Rattle.std.proofs.Common.{◌≡◌, ◌≢◌, ℕ, zero, suc, ◌+◌, ◌-◌, ◌<◌, ◌≤◌, List, [], ◌∷◌, ◌++◌, Bool, true, false, cond, ◌==◌, ◌||◌, ◌&&◌, not, Option, Some, None, length, map, subst, arith, refl, sym, ap, ◌∙◌, get_or, set, ◌⊎◌, inl, inr}
+use Rattle.std.proofs.Common.{◌≡◌, ℕ, zero, suc, ◌+◌, ◌<◌, ◌≤◌, List, [], ◌∷◌, ◌++◌, Bool, true, false, cond, ◌==◌, ◌&&◌, not, Option, Some, None, length, subst, arith, refl, sym, ap, ◌∙◌, get_or, set, ◌⊎◌, inl, inr}
 use Rattle.std.proofs.lemmas.Bool.{false≢true, cases_lt}
 use Rattle.std.proofs.lemmas.Bool.Decides.{nat_tests}
 use Rattle.std.proofs.lemmas.List.{get_or_past}
-use Rattle.std.proofs.Math.Nat.{div-add-mod}
-use Rattle.std.proofs.Math.Seq.{map-set_same}
 use Rattle.std.specs.Prelude.{nat_le}
 use Rattle.rk_model.specs.declared.scenario.Scenario.{Scenario}
 use Rattle.rk_model.specs.declared.state.Wait.{Wait}
@@ -15,27 +13,25 @@ use Rattle.rk_model.specs.declared.waiting.Caller.{Caller}
 use Rattle.rk_model.specs.declared.waiting.Wake.{Wake}
 use Rattle.rk_model.specs.Lists.{has, nth, with_nth}
 use Rattle.rk_model.specs.Names.{Table}
-use Rattle.rk_model.specs.State.{BarrierState, no_barrier, put_barrier}
+use Rattle.rk_model.specs.State.{BarrierState, no_barrier, no_partition, put_barrier}
 use Rattle.rk_model.specs.Directives.Barriers.{is_full}
 use Rattle.rk_model.specs.Directives.Waits.{leave, object_of_wait, without, without_arrival}
-use Rattle.rk_model.proofs.BooleanLemmas.{same_number}
 use Rattle.rk_model.proofs.IndexLemmas.{nth-with_other, nth-with_same}
 use Rattle.rk_queue.proofs.QueueLemmas.{threads-append, length-threads}
 use Rattle.rk_queue.specs.declared.queue.Waiter.{Waiter}
 use Rattle.rk_queue.specs.Queues.{threads, waits_in, without as without_thread}
-use Rattle.rk_signal.specs.Barriers.{Stored, Store, no_stored, group_of, IsOfGroup, IsStore, stored_at, put_at, emptied, waiter_of, with_waiter, without_waiter, ended, is_filled, waited, woken_by_wait, reply_to_wait}
+use Rattle.rk_signal.specs.Barriers.{Stored, Store, no_stored, IsOfGroup, IsStore, stored_at, put_at, emptied, waiter_of, with_waiter, without_waiter, ended, is_filled, waited, woken_by_wait, reply_to_wait}
 use Rattle.rk_parts.specs.declared.parts.ClusterPart.{ClusterPart}
 use Rattle.rk_parts.specs.declared.parts.GroupPart.{GroupPart}
-use Rattle.rk_parts.specs.Joined.{barrier_of, barrier_held, barriers_of, barrier_lent, clusters_of, joined, present_of, thread_lent, threads_of}
-use Rattle.rk_parts.specs.Groups.{no_group, group_at, group_in, is_lent, wakes_at, GroupFrame, group_frame, group_frames, PutsBarrier, Leaves, ended_waits, waited_at, woken_at, reply_at, left_at}
-use Rattle.rk_parts.proofs.ListedLemmas.{get_or-listed, get_or-any, length-listed, same_listed, set-listed}
-use Rattle.rk_parts.proofs.HeldLemmas.{found_here, found_later, found_nowhere}
+use Rattle.rk_parts.specs.Joined.{barrier_of, barrier_group, barrier_in, barrier_held, barriers_of, barrier_lent, partition_group, partition_in, joined, thread_lent}
+use Rattle.rk_parts.specs.Groups.{no_group, group_at, group_in, is_lent, wakes_in, wakes_at, PutsBarrier, Leaves, ended_waits, waited_at, woken_at, reply_at, left_at}
+use Rattle.rk_parts.proofs.FoundGroupLemmas.{nth-listed, put-listed, found_number, found_inside, found_holds, nowhere_holds, never_held, holds_here, holds_there, holds_one, partitions_same, frames_same}
+use Rattle.rk_parts.proofs.ListedLemmas.{get_or-any, length-listed}
 
 -- The barrier of an index in the state that groups stand for.
 pub barrier_is_held : (groups : List GroupPart) (i : ℕ) → 1 ≤ i → i ≤ 64 → barrier_lent groups i ≡ barrier_held groups i
 unfolding barriers_of
-barrier_is_held groups zero low high = absurd (omega (arith, low))
-barrier_is_held groups (suc j) low high = let e : 1 + j ≡ suc j = omega arith in get_or-listed (barrier_held groups) 1 64 j no_barrier (omega (arith, high)) ∙ ap (barrier_held groups) e
+barrier_is_held groups i low high = nth-listed (barrier_held groups) no_barrier i low high
 
 -- there are 64 places for barriers
 pub length_barriers : (groups : List GroupPart) → length (barriers_of groups) ≡ 64
@@ -44,62 +40,31 @@ length_barriers groups = length-listed (barrier_held groups) 1 64
 
 -- ---- the group of an index
 
--- a group that is found is that of the index
-pub found_group : (groups : List GroupPart) (at i : ℕ) → group_in groups i ≡ Some at → (group_at groups at).barriers.group ≡ group_of i
-found_group [] at i found = absurd (cc)
-found_group (g ∷ gs) zero i found = same_number g.barriers.group (group_of i) (found_here (g.barriers.group == group_of i) (group_in gs i) found)
-found_group (g ∷ gs) (suc at) i found = found_group gs at i (found_later (g.barriers.group == group_of i) (group_in gs i) at found).there
-
-pub group_within : (groups : List GroupPart) (at i : ℕ) → group_in groups i ≡ Some at → at < length groups
-group_within [] at i found = absurd (cc)
-group_within (g ∷ gs) zero i found = omega arith
-group_within (g ∷ gs) (suc at) i found = omega (arith, group_within gs at i (found_later (g.barriers.group == group_of i) (group_in gs i) at found).there)
-
--- and has its barrier,
+-- a group that is found has its barrier,
 pub barrier_found : (groups : List GroupPart) (at i : ℕ) → group_in groups i ≡ Some at → barrier_held groups i ≡ barrier_of (stored_at (group_at groups at).barriers i)
-barrier_found [] at i found = absurd (cc)
-barrier_found (g ∷ gs) zero i found = let e = found_here (g.barriers.group == group_of i) (group_in gs i) found in rw e refl
-barrier_found (g ∷ gs) (suc at) i found =
-    let later = found_later (g.barriers.group == group_of i) (group_in gs i) at found in
-    rw later.here_not (barrier_found gs at i later.there)
+barrier_found groups at i found = found_holds barrier_group barrier_in no_barrier groups at i found
 
 -- and the waits that ended;
 pub wakes_found : (groups : List GroupPart) (at i : ℕ) → group_in groups i ≡ Some at → wakes_at groups i ≡ (group_at groups at).wakes
-wakes_found [] at i found = absurd (cc)
-wakes_found (g ∷ gs) zero i found = let e = found_here (g.barriers.group == group_of i) (group_in gs i) found in rw e refl
-wakes_found (g ∷ gs) (suc at) i found =
-    let later = found_later (g.barriers.group == group_of i) (group_in gs i) at found in
-    rw later.here_not (wakes_found gs at i later.there)
+wakes_found groups at i found = found_holds barrier_group wakes_in [] groups at i found
 
 -- where none is found there is no barrier, and no wait has ended.
 pub barrier_nowhere : (groups : List GroupPart) (i : ℕ) → group_in groups i ≡ None → barrier_held groups i ≡ no_barrier
-barrier_nowhere [] i found = refl
-barrier_nowhere (g ∷ gs) i found =
-    let e = found_nowhere (g.barriers.group == group_of i) (group_in gs i) found in
-    rw e.here_not (barrier_nowhere gs i e.there_not)
+barrier_nowhere groups i none = nowhere_holds barrier_group barrier_in no_barrier groups i none
 
 pub wakes_nowhere : (groups : List GroupPart) (i : ℕ) → group_in groups i ≡ None → wakes_at groups i ≡ []
-wakes_nowhere [] i found = refl
-wakes_nowhere (g ∷ gs) i found =
-    let e = found_nowhere (g.barriers.group == group_of i) (group_in gs i) found in
-    rw e.here_not (wakes_nowhere gs i e.there_not)
-
-pub lent_nowhere : (groups : List GroupPart) (i : ℕ) → group_in groups i ≡ None → is_lent groups i ≡ false
-lent_nowhere [] i found = refl
-lent_nowhere (g ∷ gs) i found =
-    let e = found_nowhere (g.barriers.group == group_of i) (group_in gs i) found in
-    rw e.here_not (lent_nowhere gs i e.there_not)
+wakes_nowhere groups i none = nowhere_holds barrier_group wakes_in [] groups i none
 
 -- a group that is lent is found, and so is that of a barrier that lives
 pub never_lent : (groups : List GroupPart) (i : ℕ) → group_in groups i ≡ None → is_lent groups i ≡ true → ⊥
-never_lent groups i none lent = false≢true (sym (lent_nowhere groups i none) ∙ lent)
+never_lent groups i none lent = never_held barrier_group groups i none lent
 
 pub never_live : (groups : List GroupPart) (i : ℕ) → 1 ≤ i → i ≤ 64 → group_in groups i ≡ None → (barrier_lent groups i).live ≡ true → ⊥
 never_live groups i low high none live = false≢true (sym (ap (λ (b : BarrierState). b.live) (barrier_is_held groups i low high ∙ barrier_nowhere groups i none)) ∙ live)
 
 -- the group at a place, whatever stands for none
 pub group_is : (groups : List GroupPart) (at i : ℕ) (group : GroupPart) → group_in groups i ≡ Some at → group_at groups at ≡ get_or groups at group
-group_is groups at i group found = get_or-any groups at no_group group (group_within groups at i found)
+group_is groups at i group found = get_or-any groups at no_group group (found_inside barrier_group groups at i found)
 
 -- the barrier of an index, where its group is found
 pub stands_for : (groups : List GroupPart) (at i : ℕ) (group : GroupPart) → 1 ≤ i → i ≤ 64 → Some at ≡ group_in groups i → barrier_of (stored_at (get_or groups at group).barriers i) ≡ barrier_lent groups i
@@ -109,7 +74,7 @@ stands_for groups at i group low high found =
 -- and the index is that of the group
 pub of_group : (groups : List GroupPart) (at i : ℕ) (group : GroupPart) → 1 ≤ i → i ≤ 64 → Some at ≡ group_in groups i → IsOfGroup (get_or groups at group).barriers.group i
 of_group groups at i group low high found =
-    record { low = low; high = high; of = sym (found_group groups at i (sym found)) ∙ ap (λ (g : GroupPart). g.barriers.group) (group_is groups at i group (sym found)) }
+    record { low = low; high = high; of = sym (found_number barrier_group groups at i (sym found)) ∙ ap (λ (g : GroupPart). g.barriers.group) (group_is groups at i group (sym found)) }
 
 -- ---- a change of a barrier
 
@@ -117,57 +82,26 @@ of_group groups at i group low high found =
 abbrev pub changed : GroupPart → ℕ → Stored → List Wake → GroupPart
 changed group i x wakes = record group { barriers = put_at group.barriers i x; wakes = wakes }
 
-held_here : (groups : List GroupPart) (at i : ℕ) (x : Stored) (wakes : List Wake) → 1 ≤ i → i ≤ length (group_at groups at).barriers.places → group_in groups i ≡ Some at → barrier_held (set groups at (changed (group_at groups at) i x wakes)) i ≡ barrier_of x
-held_here [] at i x wakes low high found = absurd (cc)
-held_here (g ∷ gs) zero i x wakes low high found =
-    let e = found_here (g.barriers.group == group_of i) (group_in gs i) found in
-    rw e (ap barrier_of (nth-with_same no_stored x g.barriers.places i low high))
-held_here (g ∷ gs) (suc at) i x wakes low high found =
-    let later = found_later (g.barriers.group == group_of i) (group_in gs i) at found in
-    rw later.here_not (held_here gs at i x wakes low high later.there)
-
-held_there : (groups : List GroupPart) (at i u : ℕ) (x : Stored) (wakes : List Wake) → u ≢ i → barrier_held (set groups at (changed (group_at groups at) i x wakes)) u ≡ barrier_held groups u
-held_there [] at i u x wakes other = refl
-held_there (g ∷ gs) zero i u x wakes other = ap (λ s. cond (g.barriers.group == group_of u) (barrier_of s) (barrier_held gs u)) (nth-with_other no_stored x g.barriers.places i u other)
-held_there (g ∷ gs) (suc at) i u x wakes other = ap (λ b. cond (g.barriers.group == group_of u) (barrier_of (stored_at g.barriers u)) b) (held_there gs at i u x wakes other)
-
 wakes_here : (groups : List GroupPart) (at i : ℕ) (x : Stored) (wakes : List Wake) → group_in groups i ≡ Some at → wakes_at (set groups at (changed (group_at groups at) i x wakes)) i ≡ wakes
-wakes_here [] at i x wakes found = absurd (cc)
-wakes_here (g ∷ gs) zero i x wakes found = let e = found_here (g.barriers.group == group_of i) (group_in gs i) found in rw e refl
-wakes_here (g ∷ gs) (suc at) i x wakes found =
-    let later = found_later (g.barriers.group == group_of i) (group_in gs i) at found in
-    rw later.here_not (wakes_here gs at i x wakes later.there)
+wakes_here groups at i x wakes found = holds_here barrier_group wakes_in [] groups at i (changed (group_at groups at) i x wakes) refl found
 
 -- where the barriers that groups hold are those of others but for one, so are those of the state
 pub barriers_put : (old new : List GroupPart) (i : ℕ) (b : BarrierState) → 1 ≤ i → ((u : ℕ) → barrier_held new u ≡ cond (u == i) b (barrier_held old u)) → barriers_of new ≡ with_nth (barriers_of old) i b
 unfolding barriers_of
-barriers_put old new zero b low same = absurd (omega (arith, low))
-barriers_put old new (suc j) b low same =
-    let e : 1 + j ≡ suc j = omega arith in
-    set-listed (barrier_held old) (barrier_held new) 1 64 j b (λ u. same u ∙ ap (λ t. cond (u == t) b (barrier_held old u)) (sym e))
-
--- and where they are the same, so are those
-pub barriers_same : (old new : List GroupPart) → ((u : ℕ) → barrier_held new u ≡ barrier_held old u) → barriers_of new ≡ barriers_of old
-unfolding barriers_of
-barriers_same old new same = same_listed (barrier_held new) (barrier_held old) 1 64 same
-
-pub frames_same : (groups : List GroupPart) (at : ℕ) (group : GroupPart) → group_frame group ≡ group_frame (group_at groups at) → group_frames (set groups at group) ≡ group_frames groups
-frames_same groups at group same = map-set_same group_frame groups at group no_group same
+barriers_put old new i b low same = put-listed (barrier_held old) (barrier_held new) i b low same
 
 -- a change of the place of an index, in its group
 pub puts_barrier : (groups : List GroupPart) (at i : ℕ) (x : Stored) (wakes : List Wake) → 1 ≤ i → i ≤ 64 → group_in groups i ≡ Some at → IsStore (group_at groups at).barriers → PutsBarrier groups i (barrier_of x) (set groups at (changed (group_at groups at) i x wakes))
 puts_barrier groups at i x wakes low high found store =
+    let group = group_at groups at in
+    let next = changed group i x wakes in
+    let within : i ≤ length group.barriers.places = omega (arith, high, store.count) in
+    let put : barrier_in next i ≡ barrier_of x = ap barrier_of (nth-with_same no_stored x group.barriers.places i low within) in
     record {
-      barriers = barriers_put groups _ i (barrier_of x) low (λ u. by u (u == i) refl);
-      kept = frames_same groups at (changed (group_at groups at) i x wakes) refl;
+      barriers = barriers_put groups (set groups at next) i (barrier_of x) low (holds_one barrier_group barrier_in no_barrier groups at i next (barrier_of x) refl found put (λ u other. ap barrier_of (nth-with_other no_stored x group.barriers.places i u other)));
+      partitions = partitions_same groups (set groups at next) (λ u. holds_there partition_group partition_in no_partition groups at u next refl refl);
+      kept = frames_same groups at next refl;
     }
-  where
-    within : i ≤ length (group_at groups at).barriers.places
-    within = omega (arith, high, store.count)
-
-    by : (u : ℕ) (b : Bool) → (u == i) ≡ b → barrier_held (set groups at (changed (group_at groups at) i x wakes)) u ≡ cond b (barrier_of x) (barrier_held groups u)
-    by u true e = ap (barrier_held (set groups at (changed (group_at groups at) i x wakes))) (same_number u i e) ∙ held_here groups at i x wakes low within found
-    by u false e = held_there groups at i u x wakes (λ q. grind (arith, nat_tests, e, q))
 
 -- ---- what a group does to a barrier is what is done to the barrier that it stands for
 
@@ -231,6 +165,7 @@ leaves_nothing groups i t absent =
     let still : left_by_thread t (barrier_lent groups i) ≡ barrier_lent groups i = ap (λ ts. (let next : BarrierState = record (barrier_lent groups i) { arrivals = ts } in next)) (without_absent t (barrier_lent groups i).arrivals absent) in
     record {
       barriers = sym (ap (with_nth (barriers_of groups) i) still ∙ with_nth-still no_barrier (barriers_of groups) i);
+      partitions = refl;
       kept = refl;
     }
 
@@ -264,30 +199,12 @@ leaves_found groups at i t low high found store = by (waits_in (stored_at (group
       let left : barrier_of (without_waiter t x) ≡ left_by_thread t (barrier_lent groups i) = left_is t x ∙ ap (left_by_thread t) (sym is) in
       record {
         barriers = puts.barriers ∙ ap (with_nth (barriers_of groups) i) left;
+        partitions = puts.partitions;
         kept = puts.kept;
       }
   by false absent =
       subst (Leaves groups t (Some (AtBarrier i))) (sym (with_nth-still no_group groups (suc at)))
       (leaves_nothing groups i t (ap (λ (b : BarrierState). has b.arrivals t) is ∙ absent))
-
--- ---- all groups
-
-lent_has : (groups : List GroupPart) (i : ℕ) → is_lent groups i ≡ has (map (λ (group : GroupPart). group.barriers.group) groups) (group_of i)
-lent_has [] i = refl
-lent_has (g ∷ gs) i = ap (λ rest. (g.barriers.group == group_of i) || rest) (lent_has gs i)
-
-one_of_four : (n : ℕ) → n < 4 → has (0 ∷ 1 ∷ 2 ∷ 3 ∷ []) n ≡ true
-one_of_four zero low = refl
-one_of_four (suc zero) low = refl
-one_of_four (suc (suc zero)) low = refl
-one_of_four (suc (suc (suc zero))) low = refl
-one_of_four (suc (suc (suc (suc n)))) low = absurd (omega (arith, low))
-
-pub four_lent : (groups : List GroupPart) (i : ℕ) → map (λ (group : GroupPart). group.barriers.group) groups ≡ 0 ∷ 1 ∷ 2 ∷ 3 ∷ [] → is_lent groups i ≡ true
-four_lent groups i four =
-    let split = div-add-mod (i - 1) 4 in
-    let low : group_of i < 4 = omega (arith, split) in
-    lent_has groups i ∙ ap (λ ns. has ns (group_of i)) four ∙ one_of_four (group_of i) low
 
 -- ---- as the code has them
 
@@ -314,17 +231,10 @@ as_left groups at i t group barriers found is =
 
 -- a barrier that is put in its group is put in the state,
 pub barrier_joined : (s : Scenario) (table : Table) (parts : List ClusterPart) (old new : List GroupPart) (i : ℕ) (b : BarrierState) → PutsBarrier old i b new → joined s table parts new ≡ put_barrier (joined s table parts old) i b
-barrier_joined s table parts old new i b puts = λ k. record { scenario = s; present = present_of parts; clusters = clusters_of s.clusters parts; threads = threads_of parts; barriers = puts.barriers k; table = table }
+barrier_joined s table parts old new i b puts = λ k. record (joined s table parts old) { barriers = puts.barriers k; partitions = puts.partitions k }
 
 -- and a thread that leaves the queue of what it waits for leaves it in the state.
 pub left_joined : (s : Scenario) (table : Table) (parts : List ClusterPart) (old new : List GroupPart) (t : ℕ) (wait : Option Wait) → wait ≡ (thread_lent parts t).wait → Leaves old t wait new → joined s table parts new ≡ leave (joined s table parts old) t
 left_joined s table parts old new t wait waits leaves =
     let is : barriers_of new ≡ without_arrival (barriers_of old) t (object_of_wait (thread_lent parts t).wait) = leaves.barriers ∙ ap (λ (w : Option Wait). without_arrival (barriers_of old) t (object_of_wait w)) waits in
-    λ k. record { scenario = s; present = present_of parts; clusters = clusters_of s.clusters parts; threads = threads_of parts; barriers = is k; table = table }
-
--- groups with the same frame are those of the same indices
-pub lent_framed : (old new : List GroupPart) (i : ℕ) → group_frames new ≡ group_frames old → is_lent new i ≡ is_lent old i
-lent_framed old new i same = is new ∙ ap (λ (fs : List GroupFrame). has (map (λ (f : GroupFrame). f.number) fs) (group_of i)) same ∙ sym (is old) where
-  is : (groups : List GroupPart) → is_lent groups i ≡ has (map (λ (f : GroupFrame). f.number) (group_frames groups)) (group_of i)
-  is [] = refl
-  is (g ∷ gs) = ap (λ rest. (g.barriers.group == group_of i) || rest) (is gs)
+    λ k. record (joined s table parts old) { barriers = is k; partitions = leaves.partitions k }

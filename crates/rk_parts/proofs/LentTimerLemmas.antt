@@ -13,14 +13,14 @@ use Rattle.rk_model.specs.Directives.Objects.{has_begun}
 use Rattle.rk_model.specs.Scheduling.Timers.{without_due}
 use Rattle.rk_parts.specs.declared.parts.ClusterPart.{ClusterPart}
 use Rattle.rk_parts.specs.declared.parts.GroupPart.{GroupPart}
-use Rattle.rk_parts.specs.Joined.{barriers_of, cluster_of, lives_in, held, numbered, present_of, threads_of, clusters_of, clusters_by, joined, thread_lent, timers_lent}
+use Rattle.rk_parts.specs.Joined.{cluster_of, lives_in, held, numbered, present_of, threads_of, clusters_of, clusters_by, joined, thread_lent, timers_lent}
 use Rattle.rk_parts.specs.Lent.{found_in, number_in, AreLaid, frame, layouts, PutsTimers, TakesDue, with_timers}
 use Rattle.rk_parts.specs.Threads.{Threads}
 use Rattle.rk_parts.specs.Noted.{part_at}
 use Rattle.rk_parts.proofs.ListedLemmas.{get_or-listed, same_listed, set-listed}
 use Rattle.rk_parts.proofs.HeldLemmas.{found_here, found_later, found_nowhere, held_else, held_found, found_lives, found_within, lives_found}
 use Rattle.rk_parts.proofs.LayoutLemmas.{Lie, lie, layouts_same, stored_same}
-use Rattle.rk_parts.proofs.PutLemmas.{present_same, part_is, thread_held}
+use Rattle.rk_parts.proofs.PutLemmas.{clusters_joined, present_same, part_is, thread_held}
 use Rattle.rk_parts.proofs.ReplaceLemmas.{number_is, number_within}
 
 -- ---- the part of a cluster
@@ -103,7 +103,7 @@ abbrev pub retimed : ClusterPart → List Armed → ClusterPart
 retimed part timers = record part { timers = timers }
 
 same_plain : (s : Scenario) (table : Table) (groups : List GroupPart) (old new : List ClusterPart) (c : ℕ) (cluster : ClusterState) → present_of new ≡ present_of old → clusters_of s.clusters new ≡ set (clusters_of s.clusters old) c cluster → threads_of new ≡ threads_of old → joined s table new groups ≡ put_cluster (joined s table old groups) c cluster
-same_plain s table groups old new c cluster e f g = λ i. record { scenario = s; present = e i; clusters = f i; threads = g i; barriers = barriers_of groups; table = table }
+same_plain s table groups old new c cluster e f g = clusters_joined s table groups old new (set (clusters_of s.clusters old) c cluster) (threads_of old) e f g
 
 -- other timers of the part of a cluster
 pub state_retimed : (s : Scenario) (table : Table) (groups : List GroupPart) (parts : List ClusterPart) (at c : ℕ) (change : List Armed → List Armed) → number_in parts c ≡ Some at → c < length s.clusters →

@@ -4,7 +4,9 @@ pub mod LayoutLemmas
 pub mod LentSeatLemmas
 pub mod LeastProcessorLemmas
 pub mod PutLemmas
+pub mod FoundGroupLemmas
 pub mod GroupLemmas
+pub mod PartitionGroupLemmas
 pub mod ReplaceLemmas
 pub mod LentTimerLemmas
 pub mod StandingLemmas

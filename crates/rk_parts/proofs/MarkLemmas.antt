@@ -97,7 +97,7 @@ set_size out out' x i n e w = rw w (length-set out i x ∙ e)
 -- one thread more is noted: all but those that are left stand as is noted
 pub noted_one : (places : List Thread) (threads : List ℕ) (i u : ℕ) (out out' : List Standing) (x : Standing) → length out ≡ 64 → i < length threads → u ≡ get_or threads i u → 1 ≤ u → u ≤ 64 →
     x ≡ own_standing (nth no_thread places u) → out' ≡ slice_set out (u - 1) x → StandAsNoted (drop i threads) out places → StandAsNoted (drop (i + 1) threads) out' places
-noted_one places threads i u out out' x size within at low high is set told t h = rw set (by t (cases_eq u t) h) where
+noted_one places threads i u out out' x size within at low high is set so_far t h = rw set (by t (cases_eq u t) h) where
   other : (t : ℕ) → (u ≡ t → ⊥) → (u == t) ≡ false
   other t apart = grind (arith, nat_tests, apart)
 
@@ -113,13 +113,13 @@ noted_one places threads i u out out' x size within at low high is set told t h 
 
   by : (t : ℕ) → (u ≡ t) ⊎ (u ≡ t → ⊥) → has (drop (i + 1) threads) t ≡ false → own_standing (nth no_thread places t) ≡ nth_standing (slice_set out (u - 1) x) t
   by t (inl e) h = ap (λ v. own_standing (nth no_thread places v)) (sym e) ∙ sym is ∙ here t e
-  by t (inr apart) h = told t (left_at threads i u t within at ∙ (rw (other t apart, h) refl)) ∙ kept t apart
+  by t (inr apart) h = so_far t (left_at threads i u t within at ∙ (rw (other t apart, h) refl)) ∙ kept t apart
 
 -- when none is left, all are noted
 pub all_noted : (places : List Thread) (left : List ℕ) (out : List Standing) → length places ≡ 64 → length out ≡ 64 → left ≡ [] → StandAsNoted left out places → out ≡ map own_standing places
-all_noted places left out size same none told =
+all_noted places left out size same none so_far =
     ext_get_or no_standing out (map own_standing places) (same ∙ sym size ∙ sym (length-map places own_standing))
-    (λ i h. sym (told (suc i) (ap (λ us. has us (suc i)) none)) ∙ sym (standing_of places (suc i)))
+    (λ i h. sym (so_far (suc i) (ap (λ us. has us (suc i)) none)) ∙ sym (standing_of places (suc i)))
 
 -- places without threads stand as is noted of none
 pub nth_replicate : {X : Type 0} (x : X) (n t : ℕ) → nth x (replicate n x) t ≡ x

@@ -12,12 +12,12 @@ use Rattle.rk_line.specs.declared.line.Place.{Place}
 use Rattle.rk_model.specs.declared.state.Thread.{Thread}
 use Rattle.rk_model.specs.Lists.{nth, with_nth}
 use Rattle.rk_model.specs.Names.{Table}
-use Rattle.rk_model.specs.State.{no_thread, put_thread}
+use Rattle.rk_model.specs.State.{Plain, ClusterState, no_thread, put_thread}
 use Rattle.rk_model.specs.Directives.Objects.{has_begun}
 use Rattle.rk_model.proofs.IndexLemmas.{nth-with_other, nth-with_same}
 use Rattle.rk_parts.specs.declared.parts.ClusterPart.{ClusterPart}
 use Rattle.rk_parts.specs.declared.parts.GroupPart.{GroupPart}
-use Rattle.rk_parts.specs.Joined.{barriers_of, cluster_of, placed_in, lives_in, held, numbered, present_of, threads_of, clusters_of, clusters_by, joined, thread_lent}
+use Rattle.rk_parts.specs.Joined.{cluster_of, placed_in, lives_in, held, numbered, present_of, threads_of, clusters_of, clusters_by, joined, thread_lent}
 use Rattle.rk_parts.specs.Lent.{found_in, Puts, layouts, stored}
 use Rattle.rk_parts.specs.Threads.{Threads, own_standing}
 use Rattle.rk_parts.specs.Noted.{part_at, no_part, standings_in, key_of, IsKeyed, AreNoted}
@@ -80,9 +80,13 @@ present_same [] at part e = refl
 present_same (p ∷ ps) zero part e = e
 present_same (p ∷ ps) (suc at) part e = refl
 
--- states that are the same but for a thread
+-- what parts of clusters stand for that have these clusters and threads
+pub clusters_joined : (s : Scenario) (table : Table) (groups : List GroupPart) (old new : List ClusterPart) (clusters : List ClusterState) (threads : List Thread) → present_of new ≡ present_of old → clusters_of s.clusters new ≡ clusters → threads_of new ≡ threads → joined s table new groups ≡ (let k : Plain = record (joined s table old groups) { clusters = clusters; threads = threads } in k)
+clusters_joined s table groups old new clusters threads e f g = λ i. record (joined s table old groups) { present = e i; clusters = f i; threads = g i }
+
+-- a thread that is put in the parts is put in the state
 pub put_joined : (s : Scenario) (table : Table) (groups : List GroupPart) (old new : List ClusterPart) (t : ℕ) (x : Thread) → present_of new ≡ present_of old → clusters_of s.clusters new ≡ clusters_of s.clusters old → threads_of new ≡ with_nth (threads_of old) t x → joined s table new groups ≡ put_thread (joined s table old groups) t x
-put_joined s table groups old new t x e f g = λ i. record { scenario = s; present = e i; clusters = f i; threads = g i; barriers = barriers_of groups; table = table }
+put_joined s table groups old new t x e f g = clusters_joined s table groups old new (clusters_of s.clusters old) (with_nth (threads_of old) t x) e f g
 
 -- one thread of one part put
 pub state_put : (s : Scenario) (table : Table) (groups : List GroupPart) (parts : List ClusterPart) (at t : ℕ) (x : Thread) → 1 ≤ t → held (set parts at (with_thread (part_at parts at) t x)) t ≡ x →

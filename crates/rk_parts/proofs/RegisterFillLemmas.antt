@@ -57,19 +57,19 @@ unmarked_none marked last stood places c t noted none =
 
 -- A register as far as it is written: only threads that are left may lack their change.
 pub record IsFilling (whole : ℕ → Option Change) (left : List ℕ) (out : ℕ → Option Change) : Type 0 where
-  pub told : (t : ℕ) → has left t ≡ false → out t ≡ whole t
+  pub so_far : (t : ℕ) → has left t ≡ false → out t ≡ whole t
   pub part : (t : ℕ) → (out t ≡ None) ⊎ (out t ≡ whole t)
 
 pub fill_none : (marked last : List ℕ) (stood : List Standing) (places : List Thread) (c : ℕ) (out : ℕ → Option Change) → StandAsNoted marked stood places → ((t : ℕ) → out t ≡ None) → IsFilling (register stood (map own_standing places) last c) (marked ++ last) out
 fill_none marked last stood places c out noted none = record {
-  told = λ t h. none t ∙ sym (unmarked_none marked last stood places c t noted h);
+  so_far = λ t h. none t ∙ sym (unmarked_none marked last stood places c t noted h);
   part = λ t. inl (none t);
 }
 
 -- one thread more, which has a change
 pub fill_some : (whole : ℕ → Option Change) (u : ℕ) (left : List ℕ) (out next : ℕ → Option Change) (change : Change) → IsFilling whole (u ∷ left) out → Some change ≡ whole u → next ≡ with_change out u change → IsFilling whole left next
 fill_some whole u left out next change is has_it set = record {
-  told = λ t h. ap (λ f. f t) set ∙ here t (u == t) refl h;
+  so_far = λ t h. ap (λ f. f t) set ∙ here t (u == t) refl h;
   part = λ t. rw set (there t (u == t) refl);
 } where
   equal : (t : ℕ) → (u == t) ≡ true → u ≡ t
@@ -77,7 +77,7 @@ fill_some whole u left out next change is has_it set = record {
 
   here : (t : ℕ) (b : Bool) → (u == t) ≡ b → has left t ≡ false → cond b (Some change) (out t) ≡ whole t
   here t true e h = has_it ∙ ap whole (equal t e)
-  here t false e h = is.told t (rw (e, h) refl)
+  here t false e h = is.so_far t (rw (e, h) refl)
 
   there : (t : ℕ) (b : Bool) → (u == t) ≡ b → (cond b (Some change) (out t) ≡ None) ⊎ (cond b (Some change) (out t) ≡ whole t)
   there t true e = inr (has_it ∙ ap whole (equal t e))
@@ -86,18 +86,18 @@ fill_some whole u left out next change is has_it set = record {
 -- one thread more, which has none
 pub fill_other : (whole : ℕ → Option Change) (u : ℕ) (left : List ℕ) (out : ℕ → Option Change) → IsFilling whole (u ∷ left) out → None ≡ whole u → IsFilling whole left out
 fill_other whole u left out is none = record {
-  told = λ t h. by t (u == t) refl h;
+  so_far = λ t h. by t (u == t) refl h;
   part = is.part;
 } where
   by : (t : ℕ) (b : Bool) → (u == t) ≡ b → has left t ≡ false → out t ≡ whole t
   by t true e h =
       let same : u ≡ t = grind (arith, nat_tests, e) in
       ⊎_elim (λ n. n ∙ none ∙ ap whole same) (λ w. w) (is.part t)
-  by t false e h = is.told t (rw (e, h) refl)
+  by t false e h = is.so_far t (rw (e, h) refl)
 
 -- with none left it is the whole register
 pub filled : (whole : ℕ → Option Change) (left : List ℕ) (out : ℕ → Option Change) → left ≡ [] → IsFilling whole left out → out ≡ whole
-filled whole left out none is = λ i t. is.told t (ap (λ us. has us t) none) i
+filled whole left out none is = λ i t. is.so_far t (ap (λ us. has us t) none) i
 
 -- those of a list from a place on, with others behind them, where the one there is known
 pub left_from : (threads last : List ℕ) (i u : ℕ) → i < length threads → u ≡ get_or threads i u → drop i threads ++ last ≡ u ∷ (drop (i + 1) threads ++ last)

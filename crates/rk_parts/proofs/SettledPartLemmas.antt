@@ -22,7 +22,7 @@ use Rattle.rk_line.specs.Places.{threads}
 use Rattle.rk_parts.specs.declared.parts.ClusterPart.{ClusterPart}
 use Rattle.rk_parts.specs.declared.parts.GroupPart.{GroupPart}
 use Rattle.rk_parts.specs.Threads.{StandAsNoted, is_ready, own_standing}
-use Rattle.rk_parts.specs.Joined.{barriers_of, listed, cluster_of, placed_in, lives_in, held, numbered, present_of, threads_of, clusters_of, clusters_by, joined, thread_lent}
+use Rattle.rk_parts.specs.Joined.{listed, cluster_of, placed_in, lives_in, held, numbered, present_of, threads_of, clusters_of, clusters_by, joined, thread_lent}
 use Rattle.rk_parts.specs.Lent.{found_in, number_in, one_more, AreLaid, Layout, layout, layouts, Stored, stored_in, stored}
 use Rattle.rk_parts.specs.ClusterRegisters.{register}
 use Rattle.rk_parts.specs.Noted.{key_of, IsKeyed, no_part, part_at, standings_in, AreNoted, LinesHold, settled_part, bare, one_lives}
@@ -30,7 +30,7 @@ use Rattle.rk_parts.specs.Settled.{settled_cluster, settled_from}
 use Rattle.rk_parts.proofs.ListedLemmas.{length-listed, same_listed, same_within}
 use Rattle.rk_parts.proofs.HeldLemmas.{held_found, held_nowhere, found_lives, found_within, nowhere_lives, lives_nowhere}
 use Rattle.rk_parts.proofs.LayoutLemmas.{Lie, lie}
-use Rattle.rk_parts.proofs.PutLemmas.{thread_held, lives_size, length_threads, length_clusters}
+use Rattle.rk_parts.proofs.PutLemmas.{clusters_joined, thread_held, lives_size, length_threads, length_clusters}
 use Rattle.rk_parts.proofs.ReplaceLemmas.{number_is, number_within}
 use Rattle.rk_parts.proofs.LentTimerLemmas.{number_found, numbered_found, cluster_numbered}
 use Rattle.rk_parts.proofs.StandingLemmas.{standing_of, standing_own, standings_say}
@@ -44,22 +44,22 @@ use Rattle.rk_parts.proofs.ClusterRegisterLemmas.{settled_by_register, keyed_by_
 -- one part more is settled
 pub one_settled : (last : List ℕ) (parts : List ClusterPart) (i : ℕ) (part next : ClusterPart) (all : List ClusterPart) → i < length parts → part ≡ get_or parts i part → bare next ≡ settled_part last part →
     map bare (take i parts) ++ map (settled_part last) (drop i parts) ≡ all → map bare (take (i + 1) (set parts i next)) ++ map (settled_part last) (drop (i + 1) (set parts i next)) ≡ all
-one_settled last parts i part next all within is done told =
+one_settled last parts i part next all within is done so_far =
     let a : map bare (take (i + 1) (set parts i next)) ≡ map bare (take i parts) ++ bare next ∷ [] = ap (map bare) (take_more_set parts i next within) ∙ map_push bare (take i parts) next in
     let b : drop (i + 1) (set parts i next) ≡ drop (i + 1) parts = drop-set-lt (i + 1) parts i next (omega arith) in
     let d : map (settled_part last) (drop i parts) ≡ settled_part last part ∷ map (settled_part last) (drop (i + 1) parts) =
     ap (map (settled_part last)) (drop_more parts i part within) ∙ ap (λ (p : ClusterPart). settled_part last p ∷ map (settled_part last) (drop (i + 1) parts)) (sym is) in
-    rw (a, b, append_assoc, done) (rw d at told)
+    rw (a, b, append_assoc, done) (rw d at so_far)
 
 -- one part more is settled already
 pub one_still : (last : List ℕ) (parts : List ClusterPart) (i : ℕ) (part : ClusterPart) (all : List ClusterPart) → i < length parts → part ≡ get_or parts i part → bare part ≡ settled_part last part →
     map bare (take i parts) ++ map (settled_part last) (drop i parts) ≡ all → map bare (take (i + 1) parts) ++ map (settled_part last) (drop (i + 1) parts) ≡ all
-one_still last parts i part all within is still told =
+one_still last parts i part all within is still so_far =
     let a : map bare (take (i + 1) parts) ≡ map bare (take i parts) ++ bare part ∷ [] =
     ap (map bare) (take_more parts i part within) ∙ map_push bare (take i parts) (get_or parts i part) ∙ ap (λ (p : ClusterPart). map bare (take i parts) ++ bare p ∷ []) (sym is) in
     let d : map (settled_part last) (drop i parts) ≡ settled_part last part ∷ map (settled_part last) (drop (i + 1) parts) =
     ap (map (settled_part last)) (drop_more parts i part within) ∙ ap (λ (p : ClusterPart). settled_part last p ∷ map (settled_part last) (drop (i + 1) parts)) (sym is) in
-    rw (a, append_assoc, still) (rw d at told)
+    rw (a, append_assoc, still) (rw d at so_far)
 
 pub no_items : (xs : List ℕ) → (length xs == 0) ≡ true → xs ≡ []
 no_items [] e = refl
@@ -396,7 +396,7 @@ clusters_settled s k now before mid new last is same =
     ∙ sym (settled_listed (shifts (standings k) (standings now) last) (urgency now) 64 (numbered s.clusters mid) 0 (length s.clusters))
 
 same_state : (s : Scenario) (table : Table) (groups : List GroupPart) (mid new : List ClusterPart) (clusters : List ClusterState) → present_of new ≡ present_of mid → clusters_of s.clusters new ≡ clusters → threads_of new ≡ threads_of mid → joined s table new groups ≡ (let k : Plain = record (joined s table mid groups) { clusters = clusters } in k)
-same_state s table groups mid new clusters e f g = λ i. record { scenario = s; present = e i; clusters = f i; threads = g i; barriers = barriers_of groups; table = table }
+same_state s table groups mid new clusters e f g = clusters_joined s table groups mid new clusters (threads_of mid) e f g
 
 -- The parts, each settled, stand for the settled state.
 pub settled_joined : (s : Scenario) (table : Table) (groups : List GroupPart) (k : Plain) (before mid new : List ClusterPart) (last : List ℕ) → Settles s k before mid new last → joined s table new groups ≡ settle k (joined s table mid groups) last

@@ -6,23 +6,24 @@ use Rattle.rk_model.specs.declared.scenario.Scenario.{Scenario}
 use Rattle.rk_parts.specs.declared.parts.ClusterPart.{ClusterPart}
 use Rattle.rk_parts.specs.declared.parts.GroupPart.{GroupPart}
 use Rattle.rk_parts.specs.declared.parts.AllParts.{AllParts}
-use Rattle.rk_model.specs.State.{Plain}
-use Rattle.rk_parts.specs.Joined.{barrier_of, barrier_held, barriers_of, cluster_of, placed_in, lives_in, held, numbered, present_of, threads_of, clusters_of, clusters_by, plain_of}
+use Rattle.rk_model.specs.State.{Plain, no_barrier, no_partition}
+use Rattle.rk_parts.specs.Joined.{barrier_group, barrier_in, barriers_of, partition_group, partition_in, partitions_of, held_by, cluster_of, placed_in, lives_in, held, numbered, present_of, threads_of, clusters_of, clusters_by, plain_of}
 use Rattle.rk_parts.specs.Lent.{AreLaid, Layout, layout, layouts, stored}
 use Rattle.rk_parts.specs.Noted.{part_at, standings_in, key_of, IsKeyed, AreNoted}
-use Rattle.rk_parts.specs.Whole.{AreWhole, ticks_of, ticks_in, numbers_in, at_tick, group_at_tick}
-use Rattle.rk_signal.specs.Barriers.{group_of, stored_at}
+use Rattle.rk_parts.specs.Whole.{AreWhole, ticks_of, ticks_in, numbers_in, partition_numbers, at_tick, group_at_tick}
+use Rattle.rk_signal.specs.Barriers.{group_of}
+use Rattle.rk_parts.proofs.FoundGroupLemmas.{barriers_same, partitions_same}
 use Rattle.rk_parts.proofs.ListedLemmas.{same_listed}
 use Rattle.rk_parts.proofs.PutLemmas.{Ranked, keys_in}
 
 -- one more of a list is changed
 pub one_mapped : {X : Type 0} (f : X → X) (xs : List X) (i : ℕ) (x next : X) (all : List X) → i < length xs → x ≡ get_or xs i x → next ≡ f x →
     take i xs ++ map f (drop i xs) ≡ all → take (i + 1) (set xs i next) ++ map f (drop (i + 1) (set xs i next)) ≡ all
-one_mapped f xs i x next all within is done told =
+one_mapped f xs i x next all within is done so_far =
     let a = take_more_set xs i next within in
     let b : drop (i + 1) (set xs i next) ≡ drop (i + 1) xs = drop-set-lt (i + 1) xs i next (omega arith) in
     let d : map f (drop i xs) ≡ f x ∷ map f (drop (i + 1) xs) = ap (map f) (drop_more xs i x within) ∙ ap (λ y. f y ∷ map f (drop (i + 1) xs)) (sym is) in
-    rw (a, b, append_assoc, done) (rw d at told)
+    rw (a, b, append_assoc, done) (rw d at so_far)
 
 held_tick : (n : ℕ) (parts : List ClusterPart) (t : ℕ) → held (map (at_tick n) parts) t ≡ held parts t
 held_tick n [] t = refl
@@ -61,17 +62,23 @@ tick_at f n [] i same = refl
 tick_at f n (p ∷ ps) zero same = same p
 tick_at f n (p ∷ ps) (suc i) same = tick_at f n ps i same
 
-held_by_groups : (n : ℕ) (groups : List GroupPart) (i : ℕ) → barrier_held (map (group_at_tick n) groups) i ≡ barrier_held groups i
-held_by_groups n [] i = refl
-held_by_groups n (g ∷ gs) i = ap (λ rest. if g.barriers.group == group_of i then barrier_of (stored_at g.barriers i) else rest) (held_by_groups n gs i)
+held_by_groups : {X : Type 0} (number : GroupPart → ℕ) (there : GroupPart → ℕ → X) (none : X) (n : ℕ) → ((g : GroupPart) → number (group_at_tick n g) ≡ number g) → ((g : GroupPart) (i : ℕ) → there (group_at_tick n g) i ≡ there g i) → (groups : List GroupPart) (i : ℕ) → held_by number there none (map (group_at_tick n) groups) i ≡ held_by number there none groups i
+held_by_groups number there none n same alike [] i = refl
+held_by_groups number there none n same alike (g ∷ gs) i = rw (same g, alike g i) (ap (λ rest. if number g == group_of i then there g i else rest) (held_by_groups number there none n same alike gs i))
 
 numbers_tick : (n : ℕ) (groups : List GroupPart) → numbers_in (map (group_at_tick n) groups) ≡ numbers_in groups
 numbers_tick n [] = refl
 numbers_tick n (g ∷ gs) = ap (λ ns. g.barriers.group ∷ ns) (numbers_tick n gs)
 
+partition_numbers_tick : (n : ℕ) (groups : List GroupPart) → partition_numbers (map (group_at_tick n) groups) ≡ partition_numbers groups
+partition_numbers_tick n [] = refl
+partition_numbers_tick n (g ∷ gs) = ap (λ ns. g.partitions.group ∷ ns) (partition_numbers_tick n gs)
+
 barriers_tick : (n : ℕ) (groups : List GroupPart) → barriers_of (map (group_at_tick n) groups) ≡ barriers_of groups
-unfolding barriers_of
-barriers_tick n groups = same_listed (barrier_held (map (group_at_tick n) groups)) (barrier_held groups) 1 64 (held_by_groups n groups)
+barriers_tick n groups = barriers_same groups (map (group_at_tick n) groups) (held_by_groups barrier_group barrier_in no_barrier n (λ g. refl) (λ g i. refl) groups)
+
+partitions_tick : (n : ℕ) (groups : List GroupPart) → partitions_of (map (group_at_tick n) groups) ≡ partitions_of groups
+partitions_tick n groups = partitions_same groups (map (group_at_tick n) groups) (held_by_groups partition_group partition_in no_partition n (λ g. refl) (λ g i. refl) groups)
 
 -- all parts with another tick stand for the state with that tick,
 pub state_tick : (n : ℕ) (old new : AllParts) → AreWhole old → new.clusters ≡ map (at_tick n) old.clusters → new.groups ≡ map (group_at_tick n) old.groups → new.scenario ≡ old.scenario → new.table.names ≡ old.table.names → plain_of new ≡ (let k : Plain = record (plain_of old) { present = n } in k)
@@ -81,7 +88,8 @@ state_tick n old new whole clusters groups scenario names =
     ap (λ (s : Scenario). clusters_of s.clusters new.clusters) scenario ∙ ap (λ (ps : List ClusterPart). clusters_of old.scenario.clusters ps) clusters ∙ clusters_tick n old.scenario.clusters old.clusters in
     let ts : threads_of new.clusters ≡ threads_of old.clusters = ap (λ (ps : List ClusterPart). threads_of ps) clusters ∙ threads_tick n old.clusters in
     let bs : barriers_of new.groups ≡ barriers_of old.groups = ap (λ (gs : List GroupPart). barriers_of gs) groups ∙ barriers_tick n old.groups in
-    λ i. record { scenario = scenario i; present = tick i; clusters = cs i; threads = ts i; barriers = bs i; table = names i }
+    let qs : partitions_of new.groups ≡ partitions_of old.groups = ap (λ (gs : List GroupPart). partitions_of gs) groups ∙ partitions_tick n old.groups in
+    λ i. record { scenario = scenario i; present = tick i; clusters = cs i; threads = ts i; barriers = bs i; partitions = qs i; table = names i }
 
 -- are whole
 pub whole_tick : (n : ℕ) (old new : AllParts) → AreWhole old → new.clusters ≡ map (at_tick n) old.clusters → new.groups ≡ map (group_at_tick n) old.groups → new.table.present ≡ n → new.scenario ≡ old.scenario → AreWhole new
@@ -93,6 +101,7 @@ whole_tick n old new whole clusters groups table scenario =
       numbers = λ c h. ap (λ (ps : List ClusterPart). (part_at ps c).lined.number) clusters ∙ tick_at (λ (p : ClusterPart). p.lined.number) n old.clusters c (λ p. refl) ∙ whole.numbers c h;
       laid = subst (λ (s : Scenario). AreLaid s.clusters (layouts new.clusters)) (sym scenario) (subst (AreLaid old.scenario.clusters) (sym (ap (λ (ps : List ClusterPart). layouts ps) clusters ∙ layouts_tick n old.clusters)) whole.laid);
       groups = ap (λ (gs : List GroupPart). numbers_in gs) groups ∙ numbers_tick n old.groups ∙ whole.groups;
+      partitions = ap (λ (gs : List GroupPart). partition_numbers gs) groups ∙ partition_numbers_tick n old.groups ∙ whole.partitions;
       time = record {
         clusters = ap (λ (ps : List ClusterPart). ticks_of (stored ps)) clusters ∙ ticks_tick n old.clusters ∙ ap (λ m. replicate m n) whole.four ∙ ap (replicate 4) (sym tick);
         groups = ap (λ (gs : List GroupPart). ticks_in gs) groups ∙ groups_tick n old.groups ∙ ap (λ m. replicate m n) four ∙ ap (replicate 4) (sym tick);

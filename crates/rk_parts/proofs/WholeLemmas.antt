@@ -6,12 +6,12 @@ use Rattle.rk_model.specs.Scheduling.Settling.{settle}
 use Rattle.rk_parts.specs.declared.parts.ClusterPart.{ClusterPart}
 use Rattle.rk_parts.specs.declared.parts.GroupPart.{GroupPart}
 use Rattle.rk_parts.specs.declared.parts.AllParts.{AllParts}
-use Rattle.rk_parts.specs.Joined.{joined, present_of, plain_of}
+use Rattle.rk_parts.specs.Joined.{barrier_group, partition_group, joined, present_of, plain_of}
 use Rattle.rk_parts.specs.Lent.{number_in, AreLaid, layouts, Stored, stored_in, stored}
 use Rattle.rk_parts.specs.Noted.{part_at, AreNoted, LinesHold, settled_part, bare}
-use Rattle.rk_parts.specs.Groups.{GroupFrame, group_frames, is_lent}
-use Rattle.rk_parts.specs.Whole.{ticks_of, ticks_in, numbers_in, AreWhole}
-use Rattle.rk_parts.proofs.GroupLemmas.{four_lent}
+use Rattle.rk_parts.specs.Groups.{GroupFrame, group_frames, holds_partitions, is_lent}
+use Rattle.rk_parts.specs.Whole.{ticks_of, ticks_in, numbers_in, partition_numbers, AreWhole}
+use Rattle.rk_parts.proofs.FoundGroupLemmas.{four_hold}
 use Rattle.rk_parts.proofs.LayoutLemmas.{lie}
 use Rattle.rk_parts.proofs.LentTimerLemmas.{number_found}
 use Rattle.rk_parts.proofs.SettledPartLemmas.{Settles, same_stored, part_settled, length_settled, layouts_settled, settled_joined, noted_settled}
@@ -25,7 +25,10 @@ lent_whole all c whole few known = lent_all all.scenario.clusters all.clusters c
 
 -- each index is that of a lent group
 pub all_groups_lent : (all : AllParts) (i : ℕ) → AreWhole all → 1 ≤ i → i ≤ 64 → is_lent all.groups i ≡ true
-all_groups_lent all i whole low high = four_lent all.groups i whole.groups
+all_groups_lent all i whole low high = four_hold barrier_group all.groups i whole.groups
+
+pub all_partitions_lent : (all : AllParts) (i : ℕ) → AreWhole all → 1 ≤ i → i ≤ 64 → holds_partitions all.groups i ≡ true
+all_partitions_lent all i whole low high = four_hold partition_group all.groups i whole.partitions
 
 -- what groups with the same frame have alike
 pub ticks_framed : (old new : List GroupPart) → group_frames new ≡ group_frames old → ticks_in new ≡ ticks_in old
@@ -39,6 +42,12 @@ numbers_framed old new same = numbers_are new ∙ ap (λ (fs : List GroupFrame).
   numbers_are : (groups : List GroupPart) → numbers_in groups ≡ map (λ (f : GroupFrame). f.number) (group_frames groups)
   numbers_are [] = refl
   numbers_are (g ∷ gs) = ap (λ ns. g.barriers.group ∷ ns) (numbers_are gs)
+
+pub partition_numbers_framed : (old new : List GroupPart) → group_frames new ≡ group_frames old → partition_numbers new ≡ partition_numbers old
+partition_numbers_framed old new same = numbers_are new ∙ ap (λ (fs : List GroupFrame). map (λ (f : GroupFrame). f.partitions) fs) same ∙ sym (numbers_are old) where
+  numbers_are : (groups : List GroupPart) → partition_numbers groups ≡ map (λ (f : GroupFrame). f.partitions) (group_frames groups)
+  numbers_are [] = refl
+  numbers_are (g ∷ gs) = ap (λ ns. g.partitions.group ∷ ns) (numbers_are gs)
 
 -- ---- ticks
 
@@ -92,6 +101,7 @@ whole_settled before mid new last whole keeps done =
       numbers = λ c low. ap (λ (p : ClusterPart). p.lined.number) (part_settled last mid.clusters new c done (omega (arith, four, low))) ∙ numbers_kept before mid whole keeps c low;
       laid = subst (λ (s : Scenario). AreLaid s.clusters (layouts new)) (sym keeps.scenario) (subst (AreLaid before.scenario.clusters) (sym (layouts_settled last mid.clusters new done)) keeps.laid);
       groups = numbers_framed before.groups mid.groups keeps.groups ∙ whole.groups;
+      partitions = partition_numbers_framed before.groups mid.groups keeps.groups ∙ whole.partitions;
       time = record {
         clusters = ticks ∙ whole.time.clusters ∙ ap (replicate 4) (sym present);
         groups = ticks_framed before.groups mid.groups keeps.groups ∙ whole.time.groups ∙ ap (replicate 4) (sym present);

@@ -1,4 +1,4 @@
--- The lent groups of objects: which are lent, and what a change of a barrier does to them.
+-- The lent groups of objects: which are lent, and what a change of a barrier or of a partition does to them.
 use Rattle.std.specs.Prelude.{ℕ, ◌≡◌, List, [], ◌∷◌, ◌++◌, Bool, false, ◌||◌, ◌==◌, Option, Some, None, map, if◌then◌else◌}
 use Rattle.std.specs.List.{slice_index_or}
 use Rattle.rk_model.specs.declared.entry.Reply.{Reply}
@@ -7,45 +7,62 @@ use Rattle.rk_model.specs.declared.status.Status.{Status}
 use Rattle.rk_model.specs.declared.status.Status.TheVariants.{Successful, Waits}
 use Rattle.rk_model.specs.declared.waiting.Wake.{Wake}
 use Rattle.rk_model.specs.Lists.{with_nth}
-use Rattle.rk_model.specs.State.{BarrierState}
+use Rattle.rk_model.specs.State.{BarrierState, PartitionState}
 use Rattle.rk_model.specs.Directives.Barriers.{is_full}
 use Rattle.rk_model.specs.Directives.Waits.{Object, OfBarrier, bare, object_of_wait, without_arrival}
 use Rattle.rk_queue.specs.Queues.{waits_in}
 use Rattle.rk_signal.specs.Barriers.{Store, group_of, stored_at, put_at, without_waiter}
 use Rattle.rk_parts.specs.declared.parts.GroupPart.{GroupPart}
-use Rattle.rk_parts.specs.Joined.{barriers_of}
+use Rattle.rk_parts.specs.Joined.{barrier_group, partition_group, held_by, barriers_of, partitions_of}
 use Rattle.rk_parts.specs.Lent.{one_more}
 
 -- a group without a place
 abbrev pub no_group : GroupPart
-no_group = record { present = 0; barriers = record { group = 0; places = [] }; wakes = [] }
+no_group = record { present = 0; barriers = record { group = 0; places = [] }; partitions = record { group = 0; places = [] }; wakes = [] }
 
 -- the group that stands at a place among these
 abbrev pub group_at : List GroupPart → ℕ → GroupPart
 group_at groups at = slice_index_or groups at no_group
 
--- the first of these groups that is that of an index
-abbrev pub group_in : List GroupPart → ℕ → Option ℕ
-group_in [] i = None
-group_in (group ∷ groups) i = if group.barriers.group == group_of i then Some 0 else one_more (group_in groups i)
+-- the first of these groups whose number is that of an index's group
+abbrev pub first_of : (GroupPart → ℕ) → List GroupPart → ℕ → Option ℕ
+first_of number [] i = None
+first_of number (group ∷ groups) i = if number group == group_of i then Some 0 else one_more (first_of number groups i)
 
--- whether the group of an index is lent
+-- as the barriers have the numbers, and as the partitions have them
+abbrev pub group_in : List GroupPart → ℕ → Option ℕ
+group_in groups i = first_of barrier_group groups i
+
+abbrev pub partitions_in : List GroupPart → ℕ → Option ℕ
+partitions_in groups i = first_of partition_group groups i
+
+-- whether one of these groups has the number of an index's group
+abbrev pub holds : (GroupPart → ℕ) → List GroupPart → ℕ → Bool
+holds number [] i = false
+holds number (group ∷ groups) i = (number group == group_of i) || holds number groups i
+
+-- whether the group of an index is lent, as the barriers have the numbers, and as the partitions have them
 abbrev pub is_lent : List GroupPart → ℕ → Bool
-is_lent [] i = false
-is_lent (group ∷ groups) i = (group.barriers.group == group_of i) || is_lent groups i
+is_lent groups i = holds barrier_group groups i
+
+abbrev pub holds_partitions : List GroupPart → ℕ → Bool
+holds_partitions groups i = holds partition_group groups i
 
 -- the waits that the last call on the group of an index ended; none where it isn't lent
-abbrev pub wakes_at : List GroupPart → ℕ → List Wake
-wakes_at [] i = []
-wakes_at (group ∷ groups) i = if group.barriers.group == group_of i then group.wakes else wakes_at groups i
+abbrev pub wakes_in : GroupPart → ℕ → List Wake
+wakes_in group i = group.wakes
 
--- What no directive changes of a group: its number, and the present tick.
+abbrev pub wakes_at : List GroupPart → ℕ → List Wake
+wakes_at groups i = held_by barrier_group wakes_in [] groups i
+
+-- What no directive changes of a group: its number, as its barriers and its partitions have it, and the present tick.
 pub record GroupFrame : Type 0 where
   pub number : ℕ
+  pub partitions : ℕ
   pub present : ℕ
 
 abbrev pub group_frame : GroupPart → GroupFrame
-group_frame group = record { number = group.barriers.group; present = group.present }
+group_frame group = record { number = group.barriers.group; partitions = group.partitions.group; present = group.present }
 
 abbrev pub group_frames : List GroupPart → List GroupFrame
 group_frames groups = map group_frame groups
@@ -53,11 +70,19 @@ group_frames groups = map group_frame groups
 -- The groups stand for the barriers with another one at an index, and keep their frame.
 pub record PutsBarrier (old : List GroupPart) (i : ℕ) (barrier : BarrierState) (new : List GroupPart) : Type 0 where
   pub barriers : barriers_of new ≡ with_nth (barriers_of old) i barrier
+  pub partitions : partitions_of new ≡ partitions_of old
+  pub kept : group_frames new ≡ group_frames old
+
+-- The groups stand for the partitions with another one at an index, and keep their frame.
+pub record PutsPartition (old : List GroupPart) (i : ℕ) (partition : PartitionState) (new : List GroupPart) : Type 0 where
+  pub partitions : partitions_of new ≡ with_nth (partitions_of old) i partition
+  pub barriers : barriers_of new ≡ barriers_of old
   pub kept : group_frames new ≡ group_frames old
 
 -- A thread has left the queue of what it waited for, and the groups keep their frame.
 pub record Leaves (old : List GroupPart) (t : ℕ) (wait : Option Wait) (new : List GroupPart) : Type 0 where
   pub barriers : barriers_of new ≡ without_arrival (barriers_of old) t (object_of_wait wait)
+  pub partitions : partitions_of new ≡ partitions_of old
   pub kept : group_frames new ≡ group_frames old
 
 -- the waits of these threads, ended with a status and without an out number, in order

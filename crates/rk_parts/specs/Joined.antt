@@ -7,12 +7,13 @@ use Rattle.rk_model.specs.declared.state.Armed.{Armed}
 use Rattle.rk_model.specs.declared.state.Thread.{Thread}
 use Rattle.rk_model.specs.Lists.{nth}
 use Rattle.rk_model.specs.Names.{Table, no_objects}
-use Rattle.rk_model.specs.State.{Plain, ClusterState, BarrierState, no_thread, no_barrier}
+use Rattle.rk_model.specs.State.{Plain, ClusterState, BarrierState, PartitionState, no_thread, no_barrier, no_partition}
 use Rattle.rk_model.specs.Histories.{free_cluster}
 use Rattle.rk_model.specs.Directives.Objects.{has_begun}
 use Rattle.rk_line.specs.Places.{threads}
 use Rattle.rk_queue.specs.Queues.{threads as waiting}
 use Rattle.rk_signal.specs.Barriers.{Stored, group_of, stored_at}
+use Rattle.rk_partition.specs.Partitions.{stored_at as partition_stored}
 use Rattle.rk_parts.specs.declared.parts.ClusterPart.{ClusterPart}
 use Rattle.rk_parts.specs.declared.parts.GroupPart.{GroupPart}
 use Rattle.rk_parts.specs.declared.parts.AllParts.{AllParts}
@@ -64,18 +65,43 @@ clusters_of counts parts = clusters_by parts counts
 abbrev pub barrier_of : Stored → BarrierState
 barrier_of stored = record { live = stored.live; automatic = stored.automatic; most = stored.most; arrivals = waiting stored.queue.arrivals }
 
--- the barrier of an index, in the first of these groups that is its group; no barrier where its group isn't lent
+-- the number of a group, as its barriers have it, and as its partitions have it
+abbrev pub barrier_group : GroupPart → ℕ
+barrier_group group = group.barriers.group
+
+abbrev pub partition_group : GroupPart → ℕ
+partition_group group = group.partitions.group
+
+-- what a group has at an index, in the first of these groups whose number is that of the index's group; where its group isn't lent, what stands for none
+abbrev pub held_by : {X : Type 0} → (GroupPart → ℕ) → (GroupPart → ℕ → X) → X → List GroupPart → ℕ → X
+held_by number at none [] i = none
+held_by number at none (group ∷ groups) i = if number group == group_of i then at group i else held_by number at none groups i
+
+-- the barrier and the partition that a group has at an index
+abbrev pub barrier_in : GroupPart → ℕ → BarrierState
+barrier_in group i = barrier_of (stored_at group.barriers i)
+
+abbrev pub partition_in : GroupPart → ℕ → PartitionState
+partition_in group i = partition_stored group.partitions i
+
+-- the barrier and the partition of an index, in the first of these groups that is its group
 abbrev pub barrier_held : List GroupPart → ℕ → BarrierState
-barrier_held [] i = no_barrier
-barrier_held (group ∷ groups) i = if group.barriers.group == group_of i then barrier_of (stored_at group.barriers i) else barrier_held groups i
+barrier_held groups i = held_by barrier_group barrier_in no_barrier groups i
+
+abbrev pub partition_held : List GroupPart → ℕ → PartitionState
+partition_held groups i = held_by partition_group partition_in no_partition groups i
 
 -- the barriers of these groups, at their indices
 unfoldable pub barriers_of : List GroupPart → List BarrierState
 barriers_of groups = listed (barrier_held groups) 1 MOST_OBJECTS
 
+-- the partitions of these groups, at their indices
+unfoldable pub partitions_of : List GroupPart → List PartitionState
+partitions_of groups = listed (partition_held groups) 1 MOST_OBJECTS
+
 -- The state that these parts stand for, in the run of a scenario and with this table.
 abbrev pub joined : Scenario → Table → List ClusterPart → List GroupPart → Plain
-joined s table parts groups = record { scenario = s; present = present_of parts; clusters = clusters_of s.clusters parts; threads = threads_of parts; barriers = barriers_of groups; table = table }
+joined s table parts groups = record { scenario = s; present = present_of parts; clusters = clusters_of s.clusters parts; threads = threads_of parts; barriers = barriers_of groups; partitions = partitions_of groups; table = table }
 
 -- the state that all parts of a running kernel stand for
 abbrev pub plain_of : AllParts → Plain
@@ -85,7 +111,7 @@ plain_of all = joined all.scenario all.table.names all.clusters all.groups
 abbrev pub no_scenario : Scenario
 no_scenario = record { clusters = []; horizon = 0; limit = 0; bodies = []; inits = [] }
 
--- The state of these parts by themselves. What is told by the threads alone is the same in each state that the parts stand for.
+-- The state of these parts by themselves. What the threads alone say is the same in each state that the parts stand for.
 abbrev pub lent : List ClusterPart → Plain
 lent parts = joined no_scenario no_objects parts []
 
@@ -96,6 +122,10 @@ thread_lent parts t = nth no_thread (threads_of parts) t
 -- the barrier of an index, as these groups have it; no barrier at 0 and above 64
 abbrev pub barrier_lent : List GroupPart → ℕ → BarrierState
 barrier_lent groups i = nth no_barrier (barriers_of groups) i
+
+-- the partition of an index, as these groups have it; no partition at 0 and above 64
+abbrev pub partition_lent : List GroupPart → ℕ → PartitionState
+partition_lent groups i = nth no_partition (partitions_of groups) i
 
 -- the timers in the part in which a thread lives
 abbrev pub timers_lent : List ClusterPart → ℕ → List Armed

@@ -18,7 +18,7 @@ use Rattle.rk_parts.specs.ClusterRegisters.{register}
 abbrev pub key_of : List Standing → ℕ → ℕ
 key_of stood t = (nth_standing stood t).prio
 
--- each place of a line has the priority that a function gives its thread
+-- each place of a ready queue has the priority that a function gives its thread
 abbrev pub IsKeyed : (ℕ → ℕ) → List Place → Type 0
 IsKeyed key [] = Unit {0}
 IsKeyed key (place ∷ line) = (place.prio ≡ key place.thread) × IsKeyed key line

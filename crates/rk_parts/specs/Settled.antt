@@ -5,7 +5,7 @@ use Rattle.rk_model.specs.State.{ClusterState}
 use Rattle.rk_model.specs.Scheduling.ReadyQueues.{assigned, most_urgent}
 use Rattle.rk_model.specs.Scheduling.Settling.{shifted}
 
--- a cluster with another line, and its processors assigned by it
+-- a cluster with another ready queue, and its processors assigned by it
 abbrev pub lined_up : (ℕ → ℕ) → List ℕ → ClusterState → ClusterState
 lined_up key line cluster = record cluster { line = line; cpus = assigned cluster.cpus (most_urgent key (length cluster.cpus) line) }
 

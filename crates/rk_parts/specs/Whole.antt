@@ -32,10 +32,15 @@ pub record AreOnTime (all : AllParts) : Type 0 where
 abbrev pub numbers_in : List GroupPart → List ℕ
 numbers_in groups = map (λ (group : GroupPart). group.barriers.group) groups
 
+-- the numbers that their partitions have
+abbrev pub partition_numbers : List GroupPart → List ℕ
+partition_numbers groups = map (λ (group : GroupPart). group.partitions.group) groups
+
 -- These are all parts of a running kernel: those of the clusters 0 to 3, laid as parts of its state, and those of the groups 0 to 3; and they are on time.
 pub record AreWhole (all : AllParts) : Type 0 where
   pub four : length all.clusters ≡ 4
   pub numbers : (c : ℕ) → c < 4 → (part_at all.clusters c).lined.number ≡ c
   pub laid : AreLaid all.scenario.clusters (layouts all.clusters)
   pub groups : numbers_in all.groups ≡ 0 ∷ 1 ∷ 2 ∷ 3 ∷ []
+  pub partitions : partition_numbers all.groups ≡ 0 ∷ 1 ∷ 2 ∷ 3 ∷ []
   pub time : AreOnTime all

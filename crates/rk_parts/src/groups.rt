@@ -2,6 +2,7 @@
 //! the lent groups that is the group of its index.
 
 ghost use Rattle.std.specs.Prelude.{◌≡◌, ◌≢◌, ◌<◌, ◌≤◌, [], Some, IfSome, length, true, false};
+ghost use Rattle.rk_model.specs.declared.limits.TheConstants.{MOST_OBJECTS};
 ghost use Rattle.rk_model.specs.declared.status.Status.TheVariants.{Successful, ObjectWasDeleted};
 ghost use Rattle.rk_model.specs.declared.state.Wait.TheVariants.{AtBarrier};
 ghost use Rattle.rk_model.specs.Lists.{has};
@@ -37,7 +38,7 @@ fn place_of(groups: &[GroupPart], index: u16) -> Option<usize>
 /// Whether a barrier lives in the lent groups.
 pub fn is_live(groups: &[GroupPart], index: u16) -> bool
     requires low { 1 ≤ index }
-    requires high { index ≤ 64 }
+    requires high { index ≤ MOST_OBJECTS }
     ensures { result ≡ (barrier_lent groups.now index).live }
 {
     match place_of(groups, index) {
@@ -49,7 +50,7 @@ pub fn is_live(groups: &[GroupPart], index: u16) -> bool
 /// Makes a barrier, where none lives.
 pub fn create(groups: &mut [GroupPart], index: u16, automatic: bool, most: u32)
     requires low { 1 ≤ index }
-    requires high { index ≤ 64 }
+    requires high { index ≤ MOST_OBJECTS }
     requires lent { is_lent groups.old index ≡ true }
     requires vacant { (barrier_lent groups.old index).live ≡ false }
     requires some { automatic ≡ true → most ≢ 0 }
@@ -76,7 +77,7 @@ fn wait_in(group: &mut GroupPart, index: u16, by: Caller) -> Reply
 /// the thread doesn't wait.
 pub fn wait(groups: &mut [GroupPart], index: u16, by: Caller) -> Reply
     requires low { 1 ≤ index }
-    requires high { index ≤ 64 }
+    requires high { index ≤ MOST_OBJECTS }
     requires live { (barrier_lent groups.old index).live ≡ true }
     requires absent { has (barrier_lent groups.old index).arrivals by.thread ≡ false }
     ensures barrier { PutsBarrier groups.old index (waited_at by.thread (barrier_lent groups.old index)) groups.new }
@@ -106,7 +107,7 @@ fn release_in(group: &mut GroupPart, index: u16) -> Reply
 /// Releases a barrier that lives: all waits there end. The out number is how many these are.
 pub fn release(groups: &mut [GroupPart], index: u16) -> Reply
     requires low { 1 ≤ index }
-    requires high { index ≤ 64 }
+    requires high { index ≤ MOST_OBJECTS }
     requires live { (barrier_lent groups.old index).live ≡ true }
     ensures barrier { PutsBarrier groups.old index (record (barrier_lent groups.old index) { arrivals = [] }) groups.new }
     ensures woken { wakes_at groups.new index ≡ ended_waits Successful (barrier_lent groups.old index).arrivals }
@@ -134,7 +135,7 @@ fn remove_in(group: &mut GroupPart, index: u16)
 /// Ends the life of a barrier that lives: all waits there end.
 pub fn remove(groups: &mut [GroupPart], index: u16)
     requires low { 1 ≤ index }
-    requires high { index ≤ 64 }
+    requires high { index ≤ MOST_OBJECTS }
     requires live { (barrier_lent groups.old index).live ≡ true }
     ensures barrier { PutsBarrier groups.old index no_barrier groups.new }
     ensures woken { wakes_at groups.new index ≡ ended_waits ObjectWasDeleted (barrier_lent groups.old index).arrivals }

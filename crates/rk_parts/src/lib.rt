@@ -4,6 +4,7 @@
 pub mod arrival;
 pub mod groups;
 pub mod lent;
+pub mod partitions;
 pub mod parts;
 pub mod processors;
 pub mod settle;

@@ -6,6 +6,7 @@ use crate::table::Table;
 use crate::threads::Threads;
 use rk_cluster::{Cluster, Moves};
 use rk_model::{Scenario, Wakes};
+use rk_partition::PartitionStore;
 use rk_signal::BarrierStore;
 use rk_wheel::Wheel;
 
@@ -31,6 +32,8 @@ pub struct GroupPart {
     pub present: u32,
     /// The barriers of the group.
     pub barriers: BarrierStore,
+    /// The partitions of the group.
+    pub partitions: PartitionStore,
     /// The waits that the last call of a manager ended.
     pub wakes: Wakes,
 }

@@ -1,6 +1,7 @@
 //! What the processors do whose parts are lent.
 
 ghost use Rattle.std.specs.Prelude.{◌≡◌, ◌<◌, ◌≤◌, List, length, Some, IfSome};
+ghost use Rattle.rk_model.specs.declared.limits.TheConstants.{MOST_PROCESSORS};
 ghost use Rattle.rk_model.specs.declared.scenario.Scenario.{Scenario as ScenarioView};
 ghost use Rattle.rk_model.specs.Names.{Table};
 ghost use Rattle.rk_model.specs.Scheduling.Running.{running, caller, least, why_of};
@@ -46,7 +47,7 @@ fn cpu_of(clusters: &[ClusterPart], cpu: u8) -> Option<ThreadIx>
 
 /// How many processors the clusters of a scenario have.
 pub fn count_cpus(scenario: &Scenario) -> u8
-    requires { cpus_in scenario.now.clusters ≤ 8 }
+    requires { cpus_in scenario.now.clusters ≤ MOST_PROCESSORS }
     ensures { result ≡ cpus_in scenario.now.clusters }
 {
     let mut count = 0;
@@ -102,7 +103,7 @@ pub fn why_not(clusters: &[ClusterPart], cpu: u8) -> Why
 /// The lowest-numbered processor that has a directive, and its thread.
 pub fn least_of(scenario: &Scenario, clusters: &[ClusterPart]) -> Option<Calling>
     requires laid { AreLaid scenario.now.clusters (layouts clusters.now) }
-    requires few { cpus_in scenario.now.clusters ≤ 8 }
+    requires few { cpus_in scenario.now.clusters ≤ MOST_PROCESSORS }
     ensures least { (table : Table) (groups : List GroupPart) → seat_of result ≡ least (joined scenario.now table clusters.now groups) }
     ensures found { (table : Table) (groups : List GroupPart) → IfSome result (λ calling. (caller (joined scenario.now table clusters.now groups) calling.cpu ≡ Some calling.thread) × (calling.cpu < cpus_in scenario.now.clusters)) }
 {

@@ -1,9 +1,10 @@
 //! The names and the indices of the objects of all classes.
 
 ghost use Rattle.std.specs.Prelude.{◌≡◌, ◌≤◌, IfOk, IfSome, true};
+ghost use Rattle.rk_model.specs.declared.limits.TheConstants.{MOST_OBJECTS};
 ghost use Rattle.rk_model.specs.Names.{no_objects, names_of, with_names, lives, given_back, least_named};
 ghost use Rattle.rk_ids.specs.LiveObjects.{IsSplit, objects};
-ghost use Rattle.rk_parts.specs.NamesAgree.{Takes, TakesIn};
+ghost use Rattle.rk_parts.specs.NamesAgree.{TakesFirst, taken_by, taken_in};
 
 use rk_ids::Ids;
 use rk_model::{Class, Name, NoMemory};
@@ -38,9 +39,9 @@ impl Model for Table {
 fn make_in(ids: &mut Ids, class: Class, name: Name) -> Option<u16>
     requires class { ids.old.class ≡ class }
     requires named { 1 ≤ name.bits }
-    ensures taken { Takes ids.old.names.free name.bits result ids.old.names ids.new.names }
+    ensures taken { TakesFirst ids.old.names.free (taken_by name.bits ids.old.names) result ids.old.names ids.new.names }
     ensures class { ids.new.class ≡ class }
-    ensures within { IfSome result (λ index. (1 ≤ index) × (index ≤ 64)) }
+    ensures within { IfSome result (λ index. (1 ≤ index) × (index ≤ MOST_OBJECTS)) }
 {
     match ids.make(name) {
         Ok(id) => id.index_in(class),
@@ -83,8 +84,8 @@ impl Table {
     /// exactly where 64 objects of the class live, and then nothing changes.
     pub fn make(&mut self, class: Class, name: Name) -> Option<u16>
         requires { 1 ≤ name.bits }
-        ensures taken { TakesIn (names_of class self.old).free class name.bits result self.old self.new }
-        ensures within { IfSome result (λ index. (1 ≤ index) × (index ≤ 64)) }
+        ensures taken { TakesFirst (names_of class self.old).free (taken_in class name.bits self.old) result self.old self.new }
+        ensures within { IfSome result (λ index. (1 ≤ index) × (index ≤ MOST_OBJECTS)) }
     {
         match class {
             Class::Task => make_in(&mut self.tasks, class, name),
@@ -99,7 +100,7 @@ impl Table {
     /// is no such object.
     pub fn find(&self, class: Class, name: Name) -> Option<u16>
         ensures least { result ≡ least_named name.bits (names_of class self.now).live }
-        ensures within { IfSome result (λ index. (1 ≤ index) × (index ≤ 64)) }
+        ensures within { IfSome result (λ index. (1 ≤ index) × (index ≤ MOST_OBJECTS)) }
     {
         self.ids(class).find(name)?.index_in(class)
     }

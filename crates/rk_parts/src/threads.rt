@@ -4,6 +4,7 @@
 //! Whoever writes a thread marks it, so that settling looks at the marked threads alone.
 
 ghost use Rattle.std.specs.Prelude.{◌≡◌, ◌≤◌, ◌||◌, ◌==◌, ℕ, length, false, map, IfOk};
+ghost use Rattle.rk_model.specs.declared.limits.TheConstants.{MOST_OBJECTS};
 ghost use Rattle.rk_model.specs.Lists.{has, nth, with_nth};
 ghost use Rattle.rk_model.specs.State.{no_thread};
 ghost use Rattle.rk_model.specs.Directives.Objects.{has_begun};
@@ -32,12 +33,13 @@ pub struct Threads {
 impl Model for Threads {
     ghost use Rattle.std.specs.Prelude.{◌≡◌, length};
     ghost use Rattle.rk_parts.specs.Threads.{Threads as ThreadsView, AreApart, StandAsNoted};
+    ghost use Rattle.rk_model.specs.declared.limits.TheConstants.{MOST_OBJECTS};
 
     ghost Value = { ThreadsView };
 
     ghost view = { λ t. record { places = t.places; stood = t.stood } };
 
-    ghost invariant = { λ t. (length t.places ≡ 64) × (length t.stood ≡ 64) × AreApart t.marked × StandAsNoted t.marked t.stood t.places };
+    ghost invariant = { λ t. (length t.places ≡ MOST_OBJECTS) × (length t.stood ≡ MOST_OBJECTS) × AreApart t.marked × StandAsNoted t.marked t.stood t.places };
 }
 
 /// The thread of an index among these, or what stands where there is none.
@@ -83,8 +85,8 @@ fn mark(marked: &mut Marked, thread: ThreadIx)
 
 /// Notes how each of these threads stands; all others stand as is noted.
 fn note_each(stood: &mut Items<Standing>, places: &[Thread], marked: &[ThreadIx])
-    requires places { length places.now ≡ 64 }
-    requires size { length stood.old ≡ 64 }
+    requires places { length places.now ≡ MOST_OBJECTS }
+    requires size { length stood.old ≡ MOST_OBJECTS }
     requires others { StandAsNoted marked.now stood.old places.now }
     ensures { stood.new ≡ map own_standing places.now }
 {
@@ -154,8 +156,8 @@ impl Threads {
     /// The threads that were put since the state settled. All others stand as they stood then.
     pub fn marked(&self) -> &[ThreadIx]
         ensures others { StandAsNoted result.now self.now.stood self.now.places }
-        ensures places { length self.now.places ≡ 64 }
-        ensures stood { length self.now.stood ≡ 64 }
+        ensures places { length self.now.places ≡ MOST_OBJECTS }
+        ensures stood { length self.now.stood ≡ MOST_OBJECTS }
     {
         self.marked.as_slice()
     }

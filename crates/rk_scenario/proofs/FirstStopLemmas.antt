@@ -12,7 +12,7 @@ use Rattle.rk_model.specs.Text.Scenarios.{cpus_in}
 use Rattle.rk_scenario.specs.TextLaws.{AreLinesOf, IsFirstStop, FaultsAtFirstStop}
 use Rattle.rk_scenario.proofs.LeftLinesLemmas.{draft_at}
 use Rattle.rk_scenario.proofs.ReaderLemmas.{Keeps, step_sound}
-use Rattle.rk_scenario.proofs.TextLemmas.{start_keeps, line_is, lines_tell, lines_told}
+use Rattle.rk_scenario.proofs.TextLemmas.{start_keeps, line_is, lines_tell, lines_stated}
 
 -- ---- each draft can be completed
 
@@ -141,10 +141,10 @@ first_stop lines fault e =
     record {
       before = (h.before.0, h.before.1, rw back (lines_tell (take h.at lines ++ h.before.0) h.before.1 h.before.2));
       stops = λ le begin. h.stops (omega (arith, h.line)) begin.0 begin.1
-          (lines_told (take (suc h.at) lines ++ begin.0) begin.1 (subst (λ (k : ℕ). AreLinesOf (take k lines ++ begin.0) begin.1) on begin.2));
+          (lines_stated (take (suc h.at) lines ++ begin.0) begin.1 (subst (λ (k : ℕ). AreLinesOf (take k lines ++ begin.0) begin.1) on begin.2));
       ends = λ lt. (
         let end : h.at ≡ length lines = h.ends (omega (arith, h.line)) in omega (arith, h.line),
-        λ s are. let read : verdict_from start 1 lines ≡ Reads s = lines_told lines s are in cc,
+        λ s are. let read : verdict_from start 1 lines ≡ Reads s = lines_stated lines s are in cc,
       );
     }
 

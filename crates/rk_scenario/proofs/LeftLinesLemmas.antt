@@ -8,17 +8,17 @@ use Rattle.rk_model.specs.Text.Scenarios.{AreOps, AreBodies, AreDistinct, AreIni
 use Rattle.rk_model.specs.Text.Reading.{Phase, Start, Headed, Clustered, Timed, Limited, InBody, InInits, Draft, known_at, init_operands}
 
 -- init lines, after those of b
-pub record InitsLeft (b : Scenario) (told : List (List (List ℕ))) (s : Scenario) : Type 0 where
+pub record InitsLeft (b : Scenario) (statements : List (List (List ℕ))) (s : Scenario) : Type 0 where
   pub more : List Init
-  pub lines : AreInits s told more
+  pub lines : AreInits s statements more
   pub few : length s.inits ≤ 64
   pub whole : s ≡ record b { inits = b.inits ++ more }
 
 -- bodies, after those of b, and init lines
-pub record BodiesLeft (b : Scenario) (told : List (List (List ℕ))) (s : Scenario) : Type 0 where
+pub record BodiesLeft (b : Scenario) (statements : List (List (List ℕ))) (s : Scenario) : Type 0 where
   pub bodies : List (List (List ℕ))
   pub inits : List (List (List ℕ))
-  pub told_is : told ≡ bodies ++ inits
+  pub statements_are : statements ≡ bodies ++ inits
   pub more : List Body
   pub bodies_are : AreBodies (length b.clusters) b.bodies bodies more
   pub few : length s.bodies ≤ 32
@@ -26,10 +26,10 @@ pub record BodiesLeft (b : Scenario) (told : List (List (List ℕ))) (s : Scenar
   pub after : InitsLeft (record b { bodies = b.bodies ++ more }) inits s
 
 -- the rest of the open body o, and what may follow it
-pub record BodyLeft (b : Scenario) (o : Body) (told : List (List (List ℕ))) (s : Scenario) : Type 0 where
+pub record BodyLeft (b : Scenario) (o : Body) (statements : List (List (List ℕ))) (s : Scenario) : Type 0 where
   pub inner : List (List (List ℕ))
   pub rest : List (List (List ℕ))
-  pub told_is : told ≡ inner ++ (codes "end" ∷ []) ∷ rest
+  pub statements_are : statements ≡ inner ++ (codes "end" ∷ []) ∷ rest
   pub more : List Op
   pub lines : AreOps (known_at b o) inner more
   pub few : length (o.lines ++ more) ≤ 1000
@@ -39,23 +39,23 @@ pub record BodyLeft (b : Scenario) (o : Body) (told : List (List (List ℕ))) (s
 abbrev pub SetsLimit : ℕ → List (List (List ℕ)) → ℕ → Type 0
 SetsLimit before [] limit = limit ≡ before
 SetsLimit before (words ∷ []) limit = (number : List ℕ) × (words ≡ codes "limit" ∷ number ∷ []) × IsNumber number limit 1 1000000
-SetsLimit before (words ∷ more ∷ told) limit = ⊥
+SetsLimit before (words ∷ more ∷ statements) limit = ⊥
 
 -- the limit, if there is one, and what may follow it
-pub record LimitLeft (b : Scenario) (told : List (List (List ℕ))) (s : Scenario) : Type 0 where
+pub record LimitLeft (b : Scenario) (statements : List (List (List ℕ))) (s : Scenario) : Type 0 where
   pub limits : List (List (List ℕ))
   pub rest : List (List (List ℕ))
-  pub told_is : told ≡ limits ++ rest
+  pub statements_are : statements ≡ limits ++ rest
   pub limit : ℕ
   pub sets : SetsLimit b.limit limits limit
   pub after : BodiesLeft (record b { limit = limit }) rest s
 
 -- clusters, after those of b, the ticks, and what may follow them
-pub record ClustersLeft (b : Scenario) (told : List (List (List ℕ))) (s : Scenario) : Type 0 where
+pub record ClustersLeft (b : Scenario) (statements : List (List (List ℕ))) (s : Scenario) : Type 0 where
   pub clusters : List (List (List ℕ))
   pub ticks : List (List ℕ)
   pub rest : List (List (List ℕ))
-  pub told_is : told ≡ clusters ++ ticks ∷ rest
+  pub statements_are : statements ≡ clusters ++ ticks ∷ rest
   pub more : List ℕ
   pub clusters_are : AreClusters clusters more
   pub few : length (b.clusters ++ more) ≤ 4
@@ -65,29 +65,29 @@ pub record ClustersLeft (b : Scenario) (told : List (List (List ℕ))) (s : Scen
   pub after : LimitLeft (record b { clusters = b.clusters ++ more; horizon = horizon }) rest s
 
 -- a cluster, after those of b, and what may follow it
-pub record ClusterLeft (b : Scenario) (told : List (List (List ℕ))) (s : Scenario) : Type 0 where
+pub record ClusterLeft (b : Scenario) (statements : List (List (List ℕ))) (s : Scenario) : Type 0 where
   pub cluster : List (List ℕ)
   pub rest : List (List (List ℕ))
-  pub told_is : told ≡ cluster ∷ rest
+  pub statements_are : statements ≡ cluster ∷ rest
   pub cpus : ℕ
   pub is : IsCluster cluster cpus
   pub after : ClustersLeft (record b { clusters = b.clusters ++ cpus ∷ [] }) rest s
 
 -- the header, and what may follow it
-pub record HeaderLeft (b : Scenario) (told : List (List (List ℕ))) (s : Scenario) : Type 0 where
+pub record HeaderLeft (b : Scenario) (statements : List (List (List ℕ))) (s : Scenario) : Type 0 where
   pub rest : List (List (List ℕ))
-  pub told_is : told ≡ (codes "rtems" ∷ codes "1" ∷ []) ∷ rest
+  pub statements_are : statements ≡ (codes "rtems" ∷ codes "1" ∷ []) ∷ rest
   pub after : ClusterLeft b rest s
 
 -- these lines complete what was read so far to the scenario s
 abbrev pub Completes : Phase → Scenario → Body → List (List (List ℕ)) → Scenario → Type 0
-Completes Start b o told s = HeaderLeft b told s
-Completes Headed b o told s = ClusterLeft b told s
-Completes Clustered b o told s = ClustersLeft b told s
-Completes Timed b o told s = LimitLeft b told s
-Completes Limited b o told s = BodiesLeft b told s
-Completes InBody b o told s = BodyLeft b o told s
-Completes InInits b o told s = InitsLeft b told s
+Completes Start b o statements s = HeaderLeft b statements s
+Completes Headed b o statements s = ClusterLeft b statements s
+Completes Clustered b o statements s = ClustersLeft b statements s
+Completes Timed b o statements s = LimitLeft b statements s
+Completes Limited b o statements s = BodiesLeft b statements s
+Completes InBody b o statements s = BodyLeft b o statements s
+Completes InInits b o statements s = InitsLeft b statements s
 
 -- a draft by its parts
 abbrev pub draft_at : Phase → Scenario → Body → Draft

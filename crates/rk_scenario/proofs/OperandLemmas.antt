@@ -9,69 +9,71 @@ use Rattle.rk_model.specs.declared.scenario.ScenarioWhy.TheVariants.{NotYetBuilt
 use Rattle.rk_model.specs.Text.Forms.{Operand, Value, Makes, Form, Row, form_of, word_in, word_of, form_from, form_in}
 use Rattle.rk_model.specs.Text.Scenarios.{Known, IsSpelled, Spell, IsOfForm, IsOp}
 use Rattle.rk_model.specs.Text.Reading.{operand_of, fits, made_of, form_line, line_like, op_line, is_end}
-use Rattle.rk_scenario.proofs.SpellingLemmas.{bind_ok, then_ok, ok_is, text_is, number_ok, number_is, var_ok, var_is, id_ok, id_is, goto_ok, goto_is, name_ok, name_is, name0_ok, name0_is, start_ok, start_is, either_ok, either_is, wish_ok, wish_is}
+use Rattle.rk_scenario.proofs.SpellingLemmas.{bind_ok, then_ok, ok_is, text_is, number_ok, number_is, var_ok, var_is, id_ok, id_is, address_ok, address_is, goto_ok, goto_is, name_ok, name_is, name0_ok, name0_is, start_ok, start_is, either_ok, either_is, wish_ok, wish_is}
 
 -- ---- operands
 
 -- what the machine takes as the word of an operand spells its value
-operand_ok : (told : Known) (o : Operand) (word : List ℕ) (value : Value o) → operand_of told o word ≡ Ok value → IsSpelled told o word value
+operand_ok : (known : Known) (o : Operand) (word : List ℕ) (value : Value o) → operand_of known o word ≡ Ok value → IsSpelled known o word value
 unfolding operand_of
-operand_ok told (Operand.Number least most) word n e = number_ok least most word n e
-operand_ok told Operand.Name word name e = name_ok word name e
-operand_ok told Operand.Name0 word name e = name0_ok word name e
-operand_ok told Operand.Var word var e = var_ok word var e
-operand_ok told Operand.Id word id e = id_ok word id e
-operand_ok told Operand.B word body e = start_ok told word body e
-operand_ok told Operand.Earlier word n e = goto_ok told.earlier word n e
-operand_ok told Operand.Mode word all e = either_ok (codes "any") (codes "all") word all e
-operand_ok told Operand.Kind word automatic e = either_ok (codes "manual") (codes "auto") word automatic e
-operand_ok told Operand.Wish word wish e = wish_ok word wish e
+operand_ok known (Operand.Number least most) word n e = number_ok least most word n e
+operand_ok known Operand.Name word name e = name_ok word name e
+operand_ok known Operand.Name0 word name e = name0_ok word name e
+operand_ok known Operand.Var word var e = var_ok word var e
+operand_ok known Operand.Id word id e = id_ok word id e
+operand_ok known Operand.Address word address e = address_ok word address e
+operand_ok known Operand.B word body e = start_ok known word body e
+operand_ok known Operand.Earlier word n e = goto_ok known.earlier word n e
+operand_ok known Operand.Mode word all e = either_ok (codes "any") (codes "all") word all e
+operand_ok known Operand.Kind word automatic e = either_ok (codes "manual") (codes "auto") word automatic e
+operand_ok known Operand.Wish word wish e = wish_ok word wish e
 
 -- the machine takes each word that spells a value of an operand, as that value
-operand_is : (told : Known) (o : Operand) (word : List ℕ) (value : Value o) → IsSpelled told o word value → operand_of told o word ≡ Ok value
+operand_is : (known : Known) (o : Operand) (word : List ℕ) (value : Value o) → IsSpelled known o word value → operand_of known o word ≡ Ok value
 unfolding operand_of
-operand_is told (Operand.Number least most) word n h = number_is least most word n h
-operand_is told Operand.Name word name h = name_is word name h
-operand_is told Operand.Name0 word name h = name0_is word name h
-operand_is told Operand.Var word var h = var_is word var h
-operand_is told Operand.Id word id h = id_is word id h
-operand_is told Operand.B word body h = start_is told word body h
-operand_is told Operand.Earlier word n h = goto_is told.earlier word n h
-operand_is told Operand.Mode word all h = either_is (codes "any") (codes "all") word all refl h
-operand_is told Operand.Kind word automatic h = either_is (codes "manual") (codes "auto") word automatic refl h
-operand_is told Operand.Wish word wish h = wish_is word wish h
+operand_is known (Operand.Number least most) word n h = number_is least most word n h
+operand_is known Operand.Name word name h = name_is word name h
+operand_is known Operand.Name0 word name h = name0_is word name h
+operand_is known Operand.Var word var h = var_is word var h
+operand_is known Operand.Id word id h = id_is word id h
+operand_is known Operand.Address word address h = address_is word address h
+operand_is known Operand.B word body h = start_is known word body h
+operand_is known Operand.Earlier word n h = goto_is known.earlier word n h
+operand_is known Operand.Mode word all h = either_is (codes "any") (codes "all") word all refl h
+operand_is known Operand.Kind word automatic h = either_is (codes "manual") (codes "auto") word automatic refl h
+operand_is known Operand.Wish word wish h = wish_is word wish h
 
 -- ---- forms
 
-made_ok : (told : Known) (operands : List Operand) (made : Makes operands) (words : List (List ℕ)) (op : Op) → made_of told operands made words ≡ Ok op → Spell told operands made words op
-made_ok told [] made [] op e = ok_is made op e
-made_ok told [] made (word ∷ words) op e = absurd cc
-made_ok told (o ∷ operands) made [] op e = absurd cc
-made_ok told (o ∷ operands) made (word ∷ words) op e =
-    let b = bind_ok (operand_of told o word) (λ value. made_of told operands (made value) words) op e in
-    (b.0, operand_ok told o word b.0 b.1, made_ok told operands (made b.0) words op b.2)
+made_ok : (known : Known) (operands : List Operand) (made : Makes operands) (words : List (List ℕ)) (op : Op) → made_of known operands made words ≡ Ok op → Spell known operands made words op
+made_ok known [] made [] op e = ok_is made op e
+made_ok known [] made (word ∷ words) op e = absurd cc
+made_ok known (o ∷ operands) made [] op e = absurd cc
+made_ok known (o ∷ operands) made (word ∷ words) op e =
+    let b = bind_ok (operand_of known o word) (λ value. made_of known operands (made value) words) op e in
+    (b.0, operand_ok known o word b.0 b.1, made_ok known operands (made b.0) words op b.2)
 
-made_is : (told : Known) (operands : List Operand) (made : Makes operands) (words : List (List ℕ)) (op : Op) → Spell told operands made words op → made_of told operands made words ≡ Ok op
-made_is told [] made [] op h = rw h refl
-made_is told [] made (word ∷ words) op h = absurd h
-made_is told (o ∷ operands) made [] op h = absurd h
-made_is told (o ∷ operands) made (word ∷ words) op h = rw (operand_is told o word h.0 h.1) (made_is told operands (made h.0) words op h.2)
+made_is : (known : Known) (operands : List Operand) (made : Makes operands) (words : List (List ℕ)) (op : Op) → Spell known operands made words op → made_of known operands made words ≡ Ok op
+made_is known [] made [] op h = rw h refl
+made_is known [] made (word ∷ words) op h = absurd h
+made_is known (o ∷ operands) made [] op h = absurd h
+made_is known (o ∷ operands) made (word ∷ words) op h = rw (operand_is known o word h.0 h.1) (made_is known operands (made h.0) words op h.2)
 
-spell_fits : (told : Known) (operands : List Operand) (made : Makes operands) (words : List (List ℕ)) (op : Op) → Spell told operands made words op → fits operands words ≡ true
-spell_fits told [] made [] op h = refl
-spell_fits told [] made (word ∷ words) op h = absurd h
-spell_fits told (o ∷ operands) made [] op h = absurd h
-spell_fits told (o ∷ operands) made (word ∷ words) op h = spell_fits told operands (made h.0) words op h.2
+spell_fits : (known : Known) (operands : List Operand) (made : Makes operands) (words : List (List ℕ)) (op : Op) → Spell known operands made words op → fits operands words ≡ true
+spell_fits known [] made [] op h = refl
+spell_fits known [] made (word ∷ words) op h = absurd h
+spell_fits known (o ∷ operands) made [] op h = absurd h
+spell_fits known (o ∷ operands) made (word ∷ words) op h = spell_fits known operands (made h.0) words op h.2
 
-form_ok : (told : Known) (form : Form) (words : List (List ℕ)) (op : Op) → form_line told form words ≡ Ok op → IsOfForm told form (word_in form ∷ words) op
+form_ok : (known : Known) (form : Form) (words : List (List ℕ)) (op : Op) → form_line known form words ≡ Ok op → IsOfForm known form (word_in form ∷ words) op
 unfolding form_line
-form_ok told (Row first operands made) words op e =
-    let t = then_ok (fits operands words) (made_of told operands made words) NotYetBuilt op e in
-    (words, refl, made_ok told operands made words op t.1)
+form_ok known (Row first operands made) words op e =
+    let t = then_ok (fits operands words) (made_of known operands made words) NotYetBuilt op e in
+    (words, refl, made_ok known operands made words op t.1)
 
-form_is : (told : Known) (form : Form) (words : List (List ℕ)) (op : Op) → IsOfForm told form words op → (rest : List (List ℕ)) × (words ≡ word_in form ∷ rest) × (form_line told form rest ≡ Ok op)
+form_is : (known : Known) (form : Form) (words : List (List ℕ)) (op : Op) → IsOfForm known form words op → (rest : List (List ℕ)) × (words ≡ word_in form ∷ rest) × (form_line known form rest ≡ Ok op)
 unfolding form_line
-form_is told (Row first operands made) words op h = (h.0, h.1, rw (spell_fits told operands made h.0 op h.2) (made_is told operands made h.0 op h.2))
+form_is known (Row first operands made) words op h = (h.0, h.1, rw (spell_fits known operands made h.0 op h.2) (made_is known operands made h.0 op h.2))
 
 -- ---- keywords
 
@@ -80,18 +82,18 @@ abbrev Always : (Op → Type 0) → (operands : List Operand) → Makes operands
 Always P [] made = P made
 Always P (o ∷ operands) made = (value : Value o) → Always P operands (made value)
 
-always_holds : (P : Op → Type 0) (told : Known) (operands : List Operand) (made : Makes operands) (words : List (List ℕ)) (op : Op) → Always P operands made → Spell told operands made words op → P op
-always_holds P told [] made [] op all h = subst P h all
-always_holds P told [] made (word ∷ words) op all h = absurd h
-always_holds P told (o ∷ operands) made [] op all h = absurd h
-always_holds P told (o ∷ operands) made (word ∷ words) op all h = always_holds P told operands (made h.0) words op (all h.0) h.2
+always_holds : (P : Op → Type 0) (known : Known) (operands : List Operand) (made : Makes operands) (words : List (List ℕ)) (op : Op) → Always P operands made → Spell known operands made words op → P op
+always_holds P known [] made [] op all h = subst P h all
+always_holds P known [] made (word ∷ words) op all h = absurd h
+always_holds P known (o ∷ operands) made [] op all h = absurd h
+always_holds P known (o ∷ operands) made (word ∷ words) op all h = always_holds P known operands (made h.0) words op (all h.0) h.2
 
 -- what holds of each op of a form
 abbrev AlwaysOf : (Op → Type 0) → Form → Type 0
 AlwaysOf P (Row first operands made) = Always P operands made
 
-always_of : (P : Op → Type 0) (told : Known) (form : Form) (words : List (List ℕ)) (op : Op) → AlwaysOf P form → IsOfForm told form words op → P op
-always_of P told (Row first operands made) words op all h = always_holds P told operands made h.0 op all h.2
+always_of : (P : Op → Type 0) (known : Known) (form : Form) (words : List (List ℕ)) (op : Op) → AlwaysOf P form → IsOfForm known form words op → P op
+always_of P known (Row first operands made) words op all h = always_holds P known operands made h.0 op all h.2
 
 -- each op that the form of an op makes has that form
 own_form : (op : Op) → AlwaysOf (λ made. form_of made ≡ form_of op) (form_of op)
@@ -122,34 +124,34 @@ form_is_of (first ∷ ops) word op e = go (bytes_eq (word_of first) word) refl e
 
 -- ---- lines of a body
 
-line_like_ok : (told : Known) (o : Option Op) (words : List (List ℕ)) (op : Op) → line_like told o words ≡ Ok op → (like : Op) × (o ≡ Some like) × IsOp told (word_of like ∷ words) op
-line_like_ok told None words op e = absurd cc
-line_like_ok told (Some like) words op e =
-    let is = form_ok told (form_of like) words op e in
-    let own : form_of op ≡ form_of like = always_of (λ made. form_of made ≡ form_of like) told (form_of like) (word_of like ∷ words) op (own_form like) is in
-    (like, refl, subst (λ (form : Form). IsOfForm told form (word_of like ∷ words) op) (sym own) is)
+line_like_ok : (known : Known) (o : Option Op) (words : List (List ℕ)) (op : Op) → line_like known o words ≡ Ok op → (like : Op) × (o ≡ Some like) × IsOp known (word_of like ∷ words) op
+line_like_ok known None words op e = absurd cc
+line_like_ok known (Some like) words op e =
+    let is = form_ok known (form_of like) words op e in
+    let own : form_of op ≡ form_of like = always_of (λ made. form_of made ≡ form_of like) known (form_of like) (word_of like ∷ words) op (own_form like) is in
+    (like, refl, subst (λ (form : Form). IsOfForm known form (word_of like ∷ words) op) (sym own) is)
 
 -- what the machine takes as a line of a body is one
-pub op_ok : (told : Known) (words : List (List ℕ)) (op : Op) → op_line told words ≡ Ok op → IsOp told words op
+pub op_ok : (known : Known) (words : List (List ℕ)) (op : Op) → op_line known words ≡ Ok op → IsOp known words op
 unfolding op_line form_in
-op_ok told [] op e = absurd cc
-op_ok told (first ∷ words) op e =
-    let k = line_like_ok told (form_from FORMS.now first) words op e in
-    subst (λ (word : List ℕ). IsOp told (word ∷ words) op) (form_is_of FORMS.now first k.0 k.1) k.2
+op_ok known [] op e = absurd cc
+op_ok known (first ∷ words) op e =
+    let k = line_like_ok known (form_from FORMS.now first) words op e in
+    subst (λ (word : List ℕ). IsOp known (word ∷ words) op) (form_is_of FORMS.now first k.0 k.1) k.2
 
-like_line : (told : Known) (o : Option Op) (form : Form) (words : List (List ℕ)) → option_map form_of o ≡ Some form → line_like told o words ≡ form_line told form words
-like_line told None form words e = absurd cc
-like_line told (Some op) form words e = let same : form_of op ≡ form = cc in ap (λ (f : Form). form_line told f words) same
+like_line : (known : Known) (o : Option Op) (form : Form) (words : List (List ℕ)) → option_map form_of o ≡ Some form → line_like known o words ≡ form_line known form words
+like_line known None form words e = absurd cc
+like_line known (Some op) form words e = let same : form_of op ≡ form = cc in ap (λ (f : Form). form_line known f words) same
 
 -- each line of a body is taken by the machine
-pub op_is : (told : Known) (words : List (List ℕ)) (op : Op) → IsOp told words op → op_line told words ≡ Ok op
+pub op_is : (known : Known) (words : List (List ℕ)) (op : Op) → IsOp known words op → op_line known words ≡ Ok op
 unfolding op_line
-op_is told words op h =
-    let line = form_is told (form_of op) words op h in
-    rw line.1 (like_line told (form_in (word_of op)) (form_of op) line.0 (found op) ∙ line.2)
+op_is known words op h =
+    let line = form_is known (form_of op) words op h in
+    rw line.1 (like_line known (form_in (word_of op)) (form_of op) line.0 (found op) ∙ line.2)
 
 -- no line of a body is the end of it
-pub op_not_end : (told : Known) (words : List (List ℕ)) (op : Op) → IsOp told words op → is_end words ≡ false
-op_not_end told words op h =
-    let line = form_is told (form_of op) words op h in
+pub op_not_end : (known : Known) (words : List (List ℕ)) (op : Op) → IsOp known words op → is_end words ≡ false
+op_not_end known words op h =
+    let line = form_is known (form_of op) words op h in
     rw line.1 (not_end op line.0)

@@ -12,7 +12,7 @@ use Rattle.rk_model.specs.declared.scenario.ScenarioWhy.{ScenarioWhy}
 use Rattle.rk_model.specs.declared.scenario.ScenarioWhy.TheVariants.{Header, NotYetBuilt}
 use Rattle.rk_model.specs.Text.Words.{is_body_name}
 use Rattle.rk_model.specs.Text.Scenarios.{AreDistinct, IsBody, IsInit, body_of, cpus_in}
-use Rattle.rk_model.specs.Text.Reading.{Phase, Start, Headed, Clustered, Timed, Limited, InBody, InInits, Draft, number_operand, known_at, op_line, init_operands, is_header, is_end, with_cluster, with_body, with_op, with_init, cluster_line, ticks_line, limit_line, body_line, inner_line, init_line, at_start, at_headed, at_clustered, at_timed, at_limited, at_inits, in_body, after_told}
+use Rattle.rk_model.specs.Text.Reading.{Phase, Start, Headed, Clustered, Timed, Limited, InBody, InInits, Draft, number_operand, known_at, op_line, init_operands, is_header, is_end, with_cluster, with_body, with_op, with_init, cluster_line, ticks_line, limit_line, body_line, inner_line, init_line, at_start, at_headed, at_clustered, at_timed, at_limited, at_inits, in_body, after_statement}
 use Rattle.rk_scenario.proofs.SpellingLemmas.{bind_ok, then_ok, else_ok, branch_ok, ok_is, text_is, number_ok, init_ok}
 use Rattle.rk_scenario.proofs.OperandLemmas.{op_ok}
 use Rattle.rk_scenario.proofs.NumberLemmas.{has_room, few_with, few_cpus_with}
@@ -63,7 +63,7 @@ pub record Keeps (p : Phase) (b : Scenario) (o : Body) : Type 0 where
 -- The step by these words to a draft keeps what drafts keep, and what completes the draft completes, behind these words, the one before.
 pub record IsSound (p : Phase) (b : Scenario) (o : Body) (words : List (List ℕ)) (next : Draft) : Type 0 where
   pub keeps : Keeps next.phase next.scenario next.body
-  pub back : (told : List (List (List ℕ))) (s : Scenario) → Completes next.phase next.scenario next.body told s → Completes p b o (words ∷ told) s
+  pub back : (statements : List (List (List ℕ))) (s : Scenario) → Completes next.phase next.scenario next.body statements s → Completes p b o (words ∷ statements) s
 
 -- ---- the header
 
@@ -82,7 +82,7 @@ start_sound b o words next e keeps =
     let is = header_is words t.0 in
     subst (λ (x : Draft). IsSound Start b o words x) (ok_is (draft_at Headed b o) next t.1) (record {
       keeps = record { alone = keeps.alone; clusters = keeps.clusters; cpus = keeps.cpus; bodies = keeps.bodies; distinct = keeps.distinct; fresh = tt; lines = keeps.lines; inits = keeps.inits };
-      back = λ told s left. record { rest = told; told_is = ap (λ (w : List (List ℕ)). w ∷ told) is; after = left };
+      back = λ statements s left. record { rest = statements; statements_are = ap (λ (w : List (List ℕ)). w ∷ statements) is; after = left };
     })
 
 -- ---- clusters and the ticks
@@ -106,10 +106,10 @@ cluster_sound p b o (count ∷ []) next e keeps =
         lines = keeps.lines;
         inits = keeps.inits;
       };
-      back = λ told s left. record {
+      back = λ statements s left. record {
         cluster = codes "cluster" ∷ count ∷ [];
-        rest = told;
-        told_is = refl;
+        rest = statements;
+        statements_are = refl;
         cpus = m.0;
         is = (count, refl, number_ok 1 8 count m.0 m.1);
         after = left;
@@ -124,14 +124,14 @@ headed_sound p b o (first ∷ operands) next e keeps =
     rw (text_is first (codes "cluster") t.0) (cluster_sound p b o operands next t.1 keeps)
 
 -- one cluster more may come before others
-clusters_cons : (b : Scenario) (told : List (List (List ℕ))) (s : Scenario) → ClusterLeft b told s → ClustersLeft b told s
-clusters_cons b told s left =
+clusters_cons : (b : Scenario) (statements : List (List (List ℕ))) (s : Scenario) → ClusterLeft b statements s → ClustersLeft b statements s
+clusters_cons b statements s left =
     let join : (b.clusters ++ left.cpus ∷ []) ++ left.after.more ≡ b.clusters ++ left.cpus ∷ left.after.more = append_assoc b.clusters (left.cpus ∷ []) left.after.more in
     record {
       clusters = left.cluster ∷ left.after.clusters;
       ticks = left.after.ticks;
       rest = left.after.rest;
-      told_is = left.told_is ∙ ap (λ (x : List (List (List ℕ))). left.cluster ∷ x) left.after.told_is;
+      statements_are = left.statements_are ∙ ap (λ (x : List (List (List ℕ))). left.cluster ∷ x) left.after.statements_are;
       more = left.cpus ∷ left.after.more;
       clusters_are = (left.is, left.after.clusters_are);
       few = subst (λ (x : List ℕ). length x ≤ 4) join left.after.few;
@@ -150,18 +150,18 @@ ticks_sound b o (ticks ∷ []) next e keeps =
     let none : b.clusters ++ [] ≡ b.clusters = append-nil b.clusters in
     subst (λ (x : Draft). IsSound Clustered b o (codes "ticks" ∷ ticks ∷ []) x) (ok_is (after n.0) next n.2) (record {
       keeps = record { alone = tt; clusters = keeps.clusters; cpus = keeps.cpus; bodies = keeps.bodies; distinct = keeps.distinct; fresh = tt; lines = keeps.lines; inits = keeps.inits };
-      back = λ told s left. record {
+      back = λ statements s left. record {
         clusters = [];
         ticks = codes "ticks" ∷ ticks ∷ [];
-        rest = told;
-        told_is = refl;
+        rest = statements;
+        statements_are = refl;
         more = [];
         clusters_are = tt;
         few = subst (λ (x : List ℕ). length x ≤ 4) (sym none) keeps.clusters;
         few_cpus = subst (λ (x : List ℕ). cpus_in x ≤ 8) (sym none) keeps.cpus;
         horizon = n.0;
         ticks_are = record { ticks = ticks; words_are = refl; number = number_ok 0 1000000 ticks n.0 n.1 };
-        after = subst (λ (x : List ℕ). LimitLeft (record b { clusters = x; horizon = n.0 }) told s) (sym none) left;
+        after = subst (λ (x : List ℕ). LimitLeft (record b { clusters = x; horizon = n.0 }) statements s) (sym none) left;
       };
     })
 ticks_sound b o (ticks ∷ more ∷ words) next e keeps = absurd cc
@@ -173,28 +173,28 @@ clustered_sound b o (first ∷ operands) next e keeps =
       | inl t ↦ rw (text_is first (codes "ticks") t.0) (ticks_sound b o operands next t.1 keeps)
       | inr t ↦
           let h = headed_sound Clustered b o (first ∷ operands) next t.1 keeps in
-          record { keeps = h.keeps; back = λ told s left. clusters_cons b ((first ∷ operands) ∷ told) s (h.back told s left) }
+          record { keeps = h.keeps; back = λ statements s left. clusters_cons b ((first ∷ operands) ∷ statements) s (h.back statements s left) }
     ]
 
 -- ---- init lines
 
-inits_cons : (b : Scenario) (words : List (List ℕ)) (init : Init) (told : List (List (List ℕ))) (s : Scenario) → IsInit b words init
-    → InitsLeft (record b { inits = b.inits ++ init ∷ [] }) told s → InitsLeft b (words ∷ told) s
-inits_cons b words init told s is left =
+inits_cons : (b : Scenario) (words : List (List ℕ)) (init : Init) (statements : List (List (List ℕ))) (s : Scenario) → IsInit b words init
+    → InitsLeft (record b { inits = b.inits ++ init ∷ [] }) statements s → InitsLeft b (words ∷ statements) s
+inits_cons b words init statements s is left =
     let whole : s ≡ record b { inits = b.inits ++ init ∷ left.more } = left.whole ∙ ap (λ (x : List Init). record b { inits = x }) (append_assoc b.inits (init ∷ []) left.more) in
     let is-s : IsInit s words init = subst (λ (x : Scenario). IsInit x words init) (sym whole) (IsInit-kept b (b.inits ++ init ∷ left.more) words init is) in
     record { more = init ∷ left.more; lines = (is-s, left.lines); few = left.few; whole = whole }
 
-bodies_of_inits : (b : Scenario) (told : List (List (List ℕ))) (s : Scenario) → AreDistinct b.bodies → length b.bodies ≤ 32 → InitsLeft b told s → BodiesLeft b told s
-bodies_of_inits b told s distinct few left = record {
+bodies_of_inits : (b : Scenario) (statements : List (List (List ℕ))) (s : Scenario) → AreDistinct b.bodies → length b.bodies ≤ 32 → InitsLeft b statements s → BodiesLeft b statements s
+bodies_of_inits b statements s distinct few left = record {
   bodies = [];
-  inits = told;
-  told_is = refl;
+  inits = statements;
+  statements_are = refl;
   more = [];
   bodies_are = refl;
   few = subst (λ (x : Scenario). length x.bodies ≤ 32) (sym left.whole) few;
   distinct = subst (λ (x : Scenario). AreDistinct x.bodies) (sym left.whole) distinct;
-  after = subst (λ (x : List Body). InitsLeft (record b { bodies = x }) told s) (sym (append-nil b.bodies)) left;
+  after = subst (λ (x : List Body). InitsLeft (record b { bodies = x }) statements s) (sym (append-nil b.bodies)) left;
 }
 
 -- what is known after an init line, whichever of two phases it came at
@@ -240,17 +240,17 @@ inits_sound p b o words next e keeps =
     let a = after_init p b o words next e in
     subst (λ (x : Draft). IsSound InInits b o words x) a.next_is (record {
       keeps = init_keeps b o a.init a.room keeps;
-      back = λ told s left. inits_cons b words a.init told s a.is left;
+      back = λ statements s left. inits_cons b words a.init statements s a.is left;
     })
 
 -- ---- bodies
 
-bodies_cons : (b : Scenario) (body : Body) (first told : List (List (List ℕ))) (s : Scenario) → IsBody (length b.clusters) b.bodies first body
-    → BodiesLeft (record b { bodies = b.bodies ++ body ∷ [] }) told s → BodiesLeft b (first ++ told) s
-bodies_cons b body first told s is left = record {
+bodies_cons : (b : Scenario) (body : Body) (first statements : List (List (List ℕ))) (s : Scenario) → IsBody (length b.clusters) b.bodies first body
+    → BodiesLeft (record b { bodies = b.bodies ++ body ∷ [] }) statements s → BodiesLeft b (first ++ statements) s
+bodies_cons b body first statements s is left = record {
   bodies = first ++ left.bodies;
   inits = left.inits;
-  told_is = ap (λ (x : List (List (List ℕ))). first ++ x) left.told_is ∙ sym (append_assoc first left.bodies left.inits);
+  statements_are = ap (λ (x : List (List (List ℕ))). first ++ x) left.statements_are ∙ sym (append_assoc first left.bodies left.inits);
   more = body ∷ left.more;
   bodies_are = (first, left.bodies, refl, is, left.bodies_are);
   few = left.few;
@@ -258,15 +258,15 @@ bodies_cons b body first told s is left = record {
   after = subst (λ (x : List Body). InitsLeft (record b { bodies = x }) left.inits s) (append_assoc b.bodies (body ∷ []) left.more) left.after;
 }
 
-body_cons : (b : Scenario) (name : List ℕ) (told : List (List (List ℕ))) (s : Scenario) → is_body_name name ≡ true
-    → BodyLeft b (record { name = name; lines = [] }) told s → BodiesLeft b ((codes "body" ∷ name ∷ []) ∷ told) s
-body_cons b name told s named left =
+body_cons : (b : Scenario) (name : List ℕ) (statements : List (List (List ℕ))) (s : Scenario) → is_body_name name ≡ true
+    → BodyLeft b (record { name = name; lines = [] }) statements s → BodiesLeft b ((codes "body" ∷ name ∷ []) ∷ statements) s
+body_cons b name statements s named left =
     let line : List (List ℕ) = codes "body" ∷ name ∷ [] in
     let end : List (List (List ℕ)) = (codes "end" ∷ []) ∷ [] in
     let first : List (List (List ℕ)) = line ∷ left.inner ++ end in
     let body : Body = record { name = name; lines = left.more } in
-    let is : IsBody (length b.clusters) b.bodies first body = record { inner = left.inner; told_is = refl; name = named; few = left.few; ops = left.lines } in
-    let whole : line ∷ told ≡ first ++ left.rest = ap (λ (x : List (List (List ℕ))). line ∷ x) (left.told_is ∙ sym (append_assoc left.inner end left.rest)) in
+    let is : IsBody (length b.clusters) b.bodies first body = record { inner = left.inner; statements_are = refl; name = named; few = left.few; ops = left.lines } in
+    let whole : line ∷ statements ≡ first ++ left.rest = ap (λ (x : List (List (List ℕ))). line ∷ x) (left.statements_are ∙ sym (append_assoc left.inner end left.rest)) in
     subst (λ (x : List (List (List ℕ))). BodiesLeft b x s) (sym whole) (bodies_cons b body first left.rest s is left.after)
 
 unknown_from : (o : Option ℕ) → is_some o ≡ false → o ≡ None
@@ -287,7 +287,7 @@ body_sound p b o (name ∷ []) next e keeps =
     let named : is_body_name name ≡ true = not-false (is_body_name name) n.0 in
     subst (λ (x : Draft). IsSound Limited b o (codes "body" ∷ name ∷ []) x) (ok_is (draft_at InBody b open_one) next r.1) (record {
       keeps = record { alone = tt; clusters = keeps.clusters; cpus = keeps.cpus; bodies = omega arith; distinct = keeps.distinct; fresh = unknown_from (body_of b.bodies name) k.0; lines = omega arith; inits = keeps.inits };
-      back = λ told s left. body_cons b name told s named left;
+      back = λ statements s left. body_cons b name statements s named left;
     })
 body_sound p b o (name ∷ more ∷ words) next e keeps = absurd cc
 
@@ -300,14 +300,14 @@ limited_sound p b o (first ∷ operands) next e keeps =
       | inr t ↦
           let last : Keeps InInits b o = record { alone = tt; clusters = keeps.clusters; cpus = keeps.cpus; bodies = keeps.bodies; distinct = keeps.distinct; fresh = tt; lines = keeps.lines; inits = keeps.inits } in
           let i = inits_sound p b o (first ∷ operands) next t.1 last in
-          record { keeps = i.keeps; back = λ told s left. bodies_of_inits b ((first ∷ operands) ∷ told) s keeps.distinct (omega (arith, keeps.bodies)) (i.back told s left) }
+          record { keeps = i.keeps; back = λ statements s left. bodies_of_inits b ((first ∷ operands) ∷ statements) s keeps.distinct (omega (arith, keeps.bodies)) (i.back statements s left) }
     ]
 
 -- ---- the limit
 
 -- no limit may come before bodies
-limit_of_bodies : (b : Scenario) (told : List (List (List ℕ))) (s : Scenario) → BodiesLeft b told s → LimitLeft b told s
-limit_of_bodies b told s left = record { limits = []; rest = told; told_is = refl; limit = b.limit; sets = refl; after = left }
+limit_of_bodies : (b : Scenario) (statements : List (List (List ℕ))) (s : Scenario) → BodiesLeft b statements s → LimitLeft b statements s
+limit_of_bodies b statements s left = record { limits = []; rest = statements; statements_are = refl; limit = b.limit; sets = refl; after = left }
 
 limit_sound : (b : Scenario) (o : Body) (operands : List (List ℕ)) (next : Draft) → limit_line (draft_at Timed b o) operands ≡ Ok next → Keeps Timed b o → IsSound Timed b o (codes "limit" ∷ operands) next
 unfolding limit_line
@@ -317,10 +317,10 @@ limit_sound b o (number ∷ []) next e keeps =
     let n = bind_ok (number_operand 1 1000000 number) (λ n. Ok (after n)) next e in
     subst (λ (x : Draft). IsSound Timed b o (codes "limit" ∷ number ∷ []) x) (ok_is (after n.0) next n.2) (record {
       keeps = record { alone = tt; clusters = keeps.clusters; cpus = keeps.cpus; bodies = keeps.bodies; distinct = keeps.distinct; fresh = tt; lines = keeps.lines; inits = keeps.inits };
-      back = λ told s left. record {
+      back = λ statements s left. record {
         limits = (codes "limit" ∷ number ∷ []) ∷ [];
-        rest = told;
-        told_is = refl;
+        rest = statements;
+        statements_are = refl;
         limit = n.0;
         sets = (number, refl, number_ok 1 1000000 number n.0 n.1);
         after = left;
@@ -336,7 +336,7 @@ timed_sound b o (first ∷ operands) next e keeps =
       | inr t ↦
           let limited : Keeps Limited b o = record { alone = tt; clusters = keeps.clusters; cpus = keeps.cpus; bodies = keeps.bodies; distinct = keeps.distinct; fresh = tt; lines = keeps.lines; inits = keeps.inits } in
           let l = limited_sound Timed b o (first ∷ operands) next t.1 limited in
-          record { keeps = l.keeps; back = λ told s left. limit_of_bodies b ((first ∷ operands) ∷ told) s (l.back told s left) }
+          record { keeps = l.keeps; back = λ statements s left. limit_of_bodies b ((first ∷ operands) ∷ statements) s (l.back statements s left) }
     ]
 
 -- ---- lines of a body
@@ -359,14 +359,14 @@ end_sound b o words e keeps = record {
     lines = omega arith;
     inits = keeps.inits;
   };
-  back = λ told s left. record {
+  back = λ statements s left. record {
     inner = [];
-    rest = told;
-    told_is = ap (λ (x : List (List ℕ)). x ∷ told) (end_is words e);
+    rest = statements;
+    statements_are = ap (λ (x : List (List ℕ)). x ∷ statements) (end_is words e);
     more = [];
     lines = tt;
     few = subst (λ (x : List Op). length x ≤ 1000) (sym (append-nil o.lines)) keeps.lines;
-    after = subst (λ (x : List Op). BodiesLeft (record b { bodies = b.bodies ++ (record o { lines = x }) ∷ [] }) told s) (sym (append-nil o.lines)) left;
+    after = subst (λ (x : List Op). BodiesLeft (record b { bodies = b.bodies ++ (record o { lines = x }) ∷ [] }) statements s) (sym (append-nil o.lines)) left;
   };
 }
 
@@ -379,12 +379,12 @@ inner_sound b o words next e keeps =
     let room : length o.lines < 1000 = ltb-true (length o.lines) 1000 r.0 in
     subst (λ (x : Draft). IsSound InBody b o words x) (ok_is (with_op d op.0) next r.1) (record {
       keeps = record { alone = tt; clusters = keeps.clusters; cpus = keeps.cpus; bodies = keeps.bodies; distinct = keeps.distinct; fresh = keeps.fresh; lines = omega (arith, length-append o.lines (op.0 ∷ [])); inits = keeps.inits };
-      back = λ told s left.
+      back = λ statements s left.
           let join = append_assoc o.lines (op.0 ∷ []) left.more in
           record {
             inner = words ∷ left.inner;
             rest = left.rest;
-            told_is = ap (λ (x : List (List (List ℕ))). words ∷ x) left.told_is;
+            statements_are = ap (λ (x : List (List (List ℕ))). words ∷ x) left.statements_are;
             more = op.0 ∷ left.more;
             lines = (op_ok (known_at b o) words op.0 op.1, left.lines);
             few = subst (λ (x : List Op). length x ≤ 1000) join left.few;
@@ -402,7 +402,7 @@ body_lines_sound b o words next e keeps =
 -- ---- all steps, and the end
 
 -- each step that the machine takes is sound
-pub step_sound : (p : Phase) (b : Scenario) (o : Body) (words : List (List ℕ)) (next : Draft) → after_told p (draft_at p b o) words ≡ Ok next → Keeps p b o → IsSound p b o words next
+pub step_sound : (p : Phase) (b : Scenario) (o : Body) (words : List (List ℕ)) (next : Draft) → after_statement p (draft_at p b o) words ≡ Ok next → Keeps p b o → IsSound p b o words next
 step_sound Start b o words next e keeps = start_sound b o words next e keeps
 step_sound Headed b o words next e keeps =
     let clustered : Keeps Clustered b o = record { alone = tt; clusters = keeps.clusters; cpus = keeps.cpus; bodies = keeps.bodies; distinct = keeps.distinct; fresh = tt; lines = keeps.lines; inits = keeps.inits } in

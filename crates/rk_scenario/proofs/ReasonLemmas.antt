@@ -12,7 +12,7 @@ use Rattle.rk_model.specs.declared.scenario.ScenarioWhy.TheVariants.{Header, Too
 use Rattle.rk_model.specs.Text.Forms.{Operand, Makes, Form, Row, form_of, form_in}
 use Rattle.rk_model.specs.Text.Words.{lines_of, words_of, is_plain, is_skipped, number_of, name_of, name0_of, var_of, is_body_name}
 use Rattle.rk_model.specs.Text.Scenarios.{Known, body_of, body_known, cpus_in, is_target}
-use Rattle.rk_model.specs.Text.Reading.{◌>>=◌, Phase, Start, Headed, Clustered, Timed, Limited, InBody, InInits, Draft, start, within, below, known, named, led, id_by, number_operand, cluster_operand, var_operand, fixed_operand, id_operand, goto_operand, name_operand, name0_operand, body_operand, start_operand, either_operand, wish_operand, operand_of, fits, made_of, form_line, line_like, op_line, is_header, is_end, known_at, cluster_line, ticks_line, limit_line, body_line, inner_line, init_operands, init_line, at_headed, at_clustered, at_timed, at_limited, at_inits, in_body, after_told, after_words, after_line, Fault, Verdict, Faults, at_end, goes_on, verdict_from}
+use Rattle.rk_model.specs.Text.Reading.{◌>>=◌, Phase, Start, Headed, Clustered, Timed, Limited, InBody, InInits, Draft, start, within, below, given_number, named, led, id_by, number_operand, cluster_operand, var_operand, given_operand, fixed_operand, id_operand, address_operand, goto_operand, name_operand, name0_operand, body_operand, start_operand, either_operand, wish_operand, operand_of, fits, made_of, form_line, line_like, op_line, is_header, is_end, known_at, cluster_line, ticks_line, limit_line, body_line, inner_line, init_operands, init_line, at_headed, at_clustered, at_timed, at_limited, at_inits, in_body, after_statement, after_words, after_line, Fault, Verdict, Faults, at_end, goes_on, verdict_from}
 use Rattle.rk_scenario.specs.TextLaws.{IsHeaderDue, FaultsHaveTheirReasons}
 use Rattle.rk_scenario.proofs.LeftLinesLemmas.{draft_at}
 use Rattle.rk_scenario.proofs.TextLemmas.{skipped_line, kept_line}
@@ -60,7 +60,7 @@ named_read : (o : Option ℕ) → IsRead (named o)
 named_read None = refl
 named_read (Some n) = tt
 
-known_read : (o : Option ℕ) → IsRead (known o)
+known_read : (o : Option ℕ) → IsRead (given_number o)
 known_read None = refl
 known_read (Some n) = tt
 
@@ -76,9 +76,12 @@ number_read : (least most : ℕ) (word : List ℕ) → IsRead (number_operand le
 unfolding number_operand
 number_read least most word = within_read least most (number_of word)
 
+given_read : (word : List ℕ) → IsRead (given_operand word)
+given_read word = bind_gives IsAny _ _ (number_read 0 4294967295 word) (λ bits. tt)
+
 fixed_read : (word : List ℕ) → IsRead (fixed_operand word)
 unfolding fixed_operand
-fixed_read word = if_gives IsAny (bytes_eq word (codes "self")) _ _ tt (bind_gives IsAny _ _ (number_read 0 4294967295 word) (λ bits. tt))
+fixed_read word = if_gives IsAny (bytes_eq word (codes "self")) _ _ tt (given_read word)
 
 either_read : (first second word : List ℕ) → IsRead (either_operand first second word)
 unfolding either_operand
@@ -88,40 +91,41 @@ wish_read : (word : List ℕ) → IsRead (wish_operand word)
 unfolding wish_operand
 wish_read word = if_gives IsAny (bytes_eq word (codes "nowait")) _ _ tt (bind_gives IsAny _ _ (number_read 0 4294967295 word) (λ ticks. tt))
 
-operand_read : (told : Known) (o : Operand) (word : List ℕ) → IsRead (operand_of told o word)
-unfolding operand_of name_operand name0_operand var_operand id_operand start_operand goto_operand
-operand_read told (Operand.Number least most) word = number_read least most word
-operand_read told Operand.Name word = named_read (name_of word)
-operand_read told Operand.Name0 word = named_read (name0_of word)
-operand_read told Operand.Var word = known_read (var_of word)
-operand_read told Operand.Id word = id_by_read (var_of word) (fixed_operand word) (fixed_read word)
-operand_read told Operand.B word = known_read (body_known told.bodies told.own word)
-operand_read told Operand.Earlier word = led_read told.earlier (number_of word)
-operand_read told Operand.Mode word = either_read (codes "any") (codes "all") word
-operand_read told Operand.Kind word = either_read (codes "manual") (codes "auto") word
-operand_read told Operand.Wish word = wish_read word
+operand_read : (known : Known) (o : Operand) (word : List ℕ) → IsRead (operand_of known o word)
+unfolding operand_of name_operand name0_operand var_operand id_operand address_operand start_operand goto_operand
+operand_read known (Operand.Number least most) word = number_read least most word
+operand_read known Operand.Name word = named_read (name_of word)
+operand_read known Operand.Name0 word = named_read (name0_of word)
+operand_read known Operand.Var word = known_read (var_of word)
+operand_read known Operand.Id word = id_by_read (var_of word) (fixed_operand word) (fixed_read word)
+operand_read known Operand.Address word = id_by_read (var_of word) (given_operand word) (given_read word)
+operand_read known Operand.B word = known_read (body_known known.bodies known.own word)
+operand_read known Operand.Earlier word = led_read known.earlier (number_of word)
+operand_read known Operand.Mode word = either_read (codes "any") (codes "all") word
+operand_read known Operand.Kind word = either_read (codes "manual") (codes "auto") word
+operand_read known Operand.Wish word = wish_read word
 
 -- ---- lines of a body
 
-made_read : (told : Known) (operands : List Operand) (made : Makes operands) (words : List (List ℕ)) → IsRead (made_of told operands made words)
-made_read told [] made [] = tt
-made_read told [] made (word ∷ words) = refl
-made_read told (o ∷ operands) made [] = refl
-made_read told (o ∷ operands) made (word ∷ words) =
-    bind_gives IsAny _ _ (operand_read told o word) (λ value. made_read told operands (made value) words)
+made_read : (known : Known) (operands : List Operand) (made : Makes operands) (words : List (List ℕ)) → IsRead (made_of known operands made words)
+made_read known [] made [] = tt
+made_read known [] made (word ∷ words) = refl
+made_read known (o ∷ operands) made [] = refl
+made_read known (o ∷ operands) made (word ∷ words) =
+    bind_gives IsAny _ _ (operand_read known o word) (λ value. made_read known operands (made value) words)
 
-form_read : (told : Known) (form : Form) (words : List (List ℕ)) → IsRead (form_line told form words)
+form_read : (known : Known) (form : Form) (words : List (List ℕ)) → IsRead (form_line known form words)
 unfolding form_line
-form_read told (Row first operands made) words = if_gives IsAny (fits operands words) _ _ (made_read told operands made words) refl
+form_read known (Row first operands made) words = if_gives IsAny (fits operands words) _ _ (made_read known operands made words) refl
 
-like_read : (told : Known) (o : Option Op) (words : List (List ℕ)) → IsRead (line_like told o words)
-like_read told None words = refl
-like_read told (Some op) words = form_read told (form_of op) words
+like_read : (known : Known) (o : Option Op) (words : List (List ℕ)) → IsRead (line_like known o words)
+like_read known None words = refl
+like_read known (Some op) words = form_read known (form_of op) words
 
-op_read : (told : Known) (words : List (List ℕ)) → IsRead (op_line told words)
+op_read : (known : Known) (words : List (List ℕ)) → IsRead (op_line known words)
 unfolding op_line
-op_read told [] = refl
-op_read told (first ∷ words) = like_read told (form_in first) words
+op_read known [] = refl
+op_read known (first ∷ words) = like_read known (form_in first) words
 
 -- ---- steps behind the header
 
@@ -212,7 +216,7 @@ timed_gives d (first ∷ operands) = if_gives IsHeaded (bytes_eq first (codes "l
 in_body_gives : (d : Draft) (words : List (List ℕ)) → IsHeaded d → Gives IsHeaded (in_body d words)
 in_body_gives d words headed = if_gives IsHeaded (is_end words) _ _ refl (inner_gives d words headed)
 
-told_gives : (p : Phase) (d : Draft) (words : List (List ℕ)) → is_start p ≡ false → IsHeaded d → Gives IsHeaded (after_told p d words)
+told_gives : (p : Phase) (d : Draft) (words : List (List ℕ)) → is_start p ≡ false → IsHeaded d → Gives IsHeaded (after_statement p d words)
 told_gives Start d words later headed = absurd cc
 told_gives Headed d words later headed = headed_gives d words
 told_gives Clustered d words later headed = clustered_gives d words
@@ -294,17 +298,17 @@ header_behind fault n line lines skipped h = record {
 
 -- the first of these lines is the header
 header_before : (fault : Fault) (n : ℕ) (line : List ℕ) (lines : List (List ℕ)) → is_skipped (words_of line) ≡ false → IsNotYet (n + 1) fault → IsReason (line ∷ lines) n fault
-header_before fault n line lines told h =
+header_before fault n line lines statements h =
     let why : fault.why ≡ NotYetBuilt = h.why in
-    record { at = suc h.at; line = omega (arith, h.line); not_large = λ large. absurd cc; header = (λ is. absurd cc, λ due. absurd (false≢true (sym told ∙ due.front.0))) }
+    record { at = suc h.at; line = omega (arith, h.line); not_large = λ large. absurd cc; header = (λ is. absurd cc, λ due. absurd (false≢true (sym statements ∙ due.front.0))) }
 
 -- the first of these lines is of allowed bytes and isn't skipped
 told_reason : (line : List ℕ) (lines : List (List ℕ)) (b : Scenario) (o : Body) (n : ℕ) (fault : Fault) → is_plain line ≡ true → is_skipped (words_of line) ≡ false
     → goes_on (cond (is_header (words_of line)) (Ok (draft_at Headed b o)) (Err Header)) n (λ next. verdict_from next (n + 1) lines) ≡ Faults fault → IsReason (line ∷ lines) n fault
-told_reason line lines b o n fault plain told e = go (is_header (words_of line)) e
+told_reason line lines b o n fault plain statements e = go (is_header (words_of line)) e
   where
     go : (is : Bool) → goes_on (cond is (Ok (draft_at Headed b o)) (Err Header)) n (λ next. verdict_from next (n + 1) lines) ≡ Faults fault → IsReason (line ∷ lines) n fault
-    go true e = header_before fault n line lines told (not_yet lines (draft_at Headed b o) (n + 1) fault e refl)
+    go true e = header_before fault n line lines statements (not_yet lines (draft_at Headed b o) (n + 1) fault e refl)
     go false e = let parts = fault_parts n Header fault e in header_there fault n line lines parts.0 parts.1 plain
 
 -- each fault of lines has its reason
@@ -320,7 +324,7 @@ reason_from (line ∷ lines) b o n fault e =
       | inr unallowed ↦ let parts = refused_is (after_line d line) NotYetBuilt n rest fault (unallowed_line d line unallowed) e in unallowed_there fault n line lines parts.0 parts.1 unallowed
       | inl plain ↦ elim (cases_Bool (is_skipped (words_of line))) [
         | inl skipped ↦ header_behind fault n line lines skipped (reason_from lines b o (n + 1) fault (taken_reads (after_line d line) d n rest (Faults fault) (skipped_line d line plain skipped) e))
-        | inr told ↦ told_reason line lines b o n fault plain told (sym (ap (λ (r : Result Draft ScenarioWhy). goes_on r n rest) (kept_line d line plain told)) ∙ e)
+        | inr statements ↦ told_reason line lines b o n fault plain statements (sym (ap (λ (r : Result Draft ScenarioWhy). goes_on r n rest) (kept_line d line plain statements)) ∙ e)
       ]
     ]
 

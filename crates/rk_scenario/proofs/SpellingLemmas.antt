@@ -16,8 +16,8 @@ use Rattle.rk_model.specs.declared.scenario.Scenario.{Scenario}
 use Rattle.rk_model.specs.declared.scenario.ScenarioWhy.{ScenarioWhy}
 use Rattle.rk_model.specs.declared.scenario.ScenarioWhy.TheVariants.{NotYetBuilt}
 use Rattle.rk_model.specs.Text.Words.{number_of, decimal_of, name_of, name0_of, var_of}
-use Rattle.rk_model.specs.Text.Scenarios.{Known, IsNumber, IsId, IsEither, IsWish, IsInit, IsEarlier, body_of, body_known, is_target}
-use Rattle.rk_model.specs.Text.Reading.{◌>>=◌, within, below, known, named, led, id_by, number_operand, cluster_operand, var_operand, fixed_operand, id_operand, goto_operand, name_operand, name0_operand, body_operand, start_operand, either_operand, wish_operand, init_operands}
+use Rattle.rk_model.specs.Text.Scenarios.{Known, IsNumber, IsId, IsAddress, IsEither, IsWish, IsInit, IsEarlier, body_of, body_known, is_target}
+use Rattle.rk_model.specs.Text.Reading.{◌>>=◌, within, below, given_number, named, led, id_by, number_operand, cluster_operand, var_operand, given_operand, fixed_operand, id_operand, address_operand, goto_operand, name_operand, name0_operand, body_operand, start_operand, either_operand, wish_operand, init_operands}
 
 -- ---- steps that are taken
 
@@ -99,14 +99,18 @@ self_no_number : number_of (codes "self") ≡ None
 unfolding number_of decimal_of
 self_no_number = refl
 
+-- what the machine takes as a number in place of an id or an address is one
+given_ok : (word : List ℕ) (target : Target) → given_operand word ≡ Ok target → (bits : ℕ) × (Given bits ≡ target) × IsNumber word bits 0 4294967295
+given_ok word target e =
+    let b = bind_ok (number_operand 0 4294967295 word) (λ bits. Ok (Given bits)) target e in
+    (b.0, ok_is (Given b.0) target b.2, number_ok 0 4294967295 word b.0 b.1)
+
 fixed_ok : (word : List ℕ) (id : Target) → fixed_operand word ≡ Ok id → IsId word id
 unfolding fixed_operand
 fixed_ok word id e =
-    elim (branch_ok (bytes_eq word (codes "self")) (done Own) (number_operand 0 4294967295 word >>= (λ bits. Ok (Given bits))) id e) [
+    elim (branch_ok (bytes_eq word (codes "self")) (done Own) (given_operand word) id e) [
       | inl h ↦ subst (λ (i : Target). IsId word i) (ok_is Own id h.1) (text_is word (codes "self") h.0)
-      | inr h ↦
-          let b = bind_ok (number_operand 0 4294967295 word) (λ bits. Ok (Given bits)) id h.1 in
-          subst (λ (i : Target). IsId word i) (ok_is (Given b.0) id b.2) (number_ok 0 4294967295 word b.0 b.1)
+      | inr h ↦ let g = given_ok word id h.1 in subst (λ (i : Target). IsId word i) g.1 g.2
     ]
 
 -- what begins with a v spells no number
@@ -143,6 +147,20 @@ id_is word (Var var) h = rw h refl
 id_is word Own h = rw h refl
 id_is word (Given bits) h = rw (number_no_var word bits h.value, number_differs (codes "self") word bits self_no_number h.value, number_is 0 4294967295 word bits h) refl
 
+pub address_ok : (word : List ℕ) (address : Target) → address_operand word ≡ Ok address → IsAddress word address
+unfolding address_operand
+address_ok word address e =
+    elim (id_by_ok (var_of word) (given_operand word) address e) [
+      | inl h ↦ subst (λ (a : Target). IsAddress word a) h.2 h.1
+      | inr h ↦ let g = given_ok word address h in subst (λ (a : Target). IsAddress word a) g.1 g.2
+    ]
+
+pub address_is : (word : List ℕ) (address : Target) → IsAddress word address → address_operand word ≡ Ok address
+unfolding address_operand var_of
+address_is word (Var var) h = rw h refl
+address_is word Own h = absurd h
+address_is word (Given bits) h = rw (number_no_var word bits h.value, number_is 0 4294967295 word bits h) refl
+
 led_ok : (earlier : List Op) (o : Option ℕ) (n : ℕ) → led earlier o ≡ Ok n → (o ≡ Some n) × (is_target earlier n ≡ true)
 led_ok earlier None n e = absurd cc
 led_ok earlier (Some m) n e =
@@ -158,7 +176,7 @@ pub goto_is : (earlier : List Op) (word : List ℕ) (n : ℕ) → IsEarlier earl
 unfolding goto_operand
 goto_is earlier word n h = rw (h.value, h.target) refl
 
-known_ok : (o : Option ℕ) (n : ℕ) → known o ≡ Ok n → o ≡ Some n
+known_ok : (o : Option ℕ) (n : ℕ) → given_number o ≡ Ok n → o ≡ Some n
 known_ok None n e = absurd cc
 known_ok (Some m) n e = ap (λ (k : ℕ). Some k) (ok_is m n e)
 
@@ -226,13 +244,13 @@ unfolding wish_operand
 wish_is word NoWait h = rw h refl
 wish_is word (Limit ticks) h = rw (number_differs (codes "nowait") word ticks nowait_no_number h.value, number_is 0 4294967295 word ticks h) refl
 
-pub start_ok : (told : Known) (word : List ℕ) (n : ℕ) → start_operand told word ≡ Ok n → body_known told.bodies told.own word ≡ Some n
+pub start_ok : (known : Known) (word : List ℕ) (n : ℕ) → start_operand known word ≡ Ok n → body_known known.bodies known.own word ≡ Some n
 unfolding start_operand
-start_ok told word n e = known_ok (body_known told.bodies told.own word) n e
+start_ok known word n e = known_ok (body_known known.bodies known.own word) n e
 
-pub start_is : (told : Known) (word : List ℕ) (n : ℕ) → body_known told.bodies told.own word ≡ Some n → start_operand told word ≡ Ok n
+pub start_is : (known : Known) (word : List ℕ) (n : ℕ) → body_known known.bodies known.own word ≡ Some n → start_operand known word ≡ Ok n
 unfolding start_operand
-start_is told word n e = rw e refl
+start_is known word n e = rw e refl
 
 body_ok : (bodies : List Body) (word : List ℕ) (n : ℕ) → body_operand bodies word ≡ Ok n → body_of bodies word ≡ Some n
 unfolding body_operand

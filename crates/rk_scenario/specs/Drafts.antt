@@ -25,10 +25,10 @@ abbrev pub draft_of : Draft → reading.Draft
 draft_of d = record { phase = phase_of d.phase; scenario = d.scenario; body = d.body }
 
 -- A line was taken, and gave the new draft; or it wasn't, for what is wrong with it or for want of memory.
-abbrev pub Takes : Result (Unit {0}) LineError → Result reading.Draft ScenarioWhy → Draft → Type 0
-Takes (Ok x) step new = step ≡ Ok (draft_of new)
-Takes (Err (errors.Fault why)) step new = step ≡ Err why
-Takes (Err errors.Memory) step new = Unit {0}
+abbrev pub Follows : Result (Unit {0}) LineError → Result reading.Draft ScenarioWhy → Draft → Type 0
+Follows (Ok x) step new = step ≡ Ok (draft_of new)
+Follows (Err (errors.Fault why)) step new = step ≡ Err why
+Follows (Err errors.Memory) step new = Unit {0}
 
 -- There are at most four clusters with at most 8 processors in all, and at most so many whole bodies; the open one has at most 1,000 lines.
 pub record HasAtMost (most : ℕ) (d : Draft) : Type 0 where

@@ -5,7 +5,7 @@ use Rattle.rk_model.specs.declared.limits.TheConstants.{MOST_BYTES}
 use Rattle.rk_model.specs.declared.scenario.Scenario.{Scenario}
 use Rattle.rk_model.specs.declared.scenario.ScenarioWhy.TheVariants.{Header, TooLarge}
 use Rattle.rk_model.specs.Text.Words.{lines_of, words_of, is_plain, is_skipped}
-use Rattle.rk_model.specs.Text.Scenarios.{Tells, ScenarioText}
+use Rattle.rk_model.specs.Text.Scenarios.{Describes, ScenarioText}
 use Rattle.rk_model.specs.Text.Reading.{Fault, Reads, verdict, scenario_fault}
 
 -- What the machine reads from bytes is a scenario of which they are a text.
@@ -27,7 +27,7 @@ FaultlessAreTexts = (bytes : List ℕ) → (scenario_fault bytes ≡ None) ↔ (
 -- The lines are those of a text of the scenario, of whatever size.
 pub record AreLinesOf (lines : List (List ℕ)) (s : Scenario) : Type 0 where
   pub allowed : AllByRecursion (λ line. is_plain line ≡ true) lines
-  pub told : Tells (filter (λ words. not (is_skipped words)) (map words_of lines)) s
+  pub statements : Describes (filter (λ words. not (is_skipped words)) (map words_of lines)) s
 
 -- Lines begin those of a text of some scenario, of whatever size.
 abbrev pub Begin : List (List ℕ) → Type 0

@@ -1,7 +1,8 @@
 ghost use Rattle.std.specs.Prelude.{◌≡◌, ◌≤◌, ◌<◌, ◌+◌, ◌&&◌, nat_lt, nat_le, length, OnOk, IfOk, codes, Ok, Err};
+ghost use Rattle.rk_model.specs.declared.limits.TheConstants.{MOST_BODIES, MOST_CLUSTERS, MOST_PROCESSORS};
 ghost use Rattle.rk_model.specs.Text.Scenarios.{cpus_in};
 ghost use Rattle.rk_model.specs.Text.Reading as reading;
-ghost use Rattle.rk_scenario.specs.Drafts.{draft_of, phase_of, Takes, HasAtMost, most_bodies, IsSmall};
+ghost use Rattle.rk_scenario.specs.Drafts.{draft_of, phase_of, Follows, HasAtMost, most_bodies, IsSmall};
 
 use crate::errors::LineError;
 use crate::operands::{
@@ -94,9 +95,9 @@ fn cpus_in(clusters: &[u8]) -> u8
 /// Whether there may be one cluster more, of so many processors: at most four clusters, with at most
 /// 8 processors in all.
 fn has_room(clusters: &[u8], count: u8) -> bool
-    requires few { cpus_in clusters.now ≤ 8 }
-    requires count { count ≤ 8 }
-    ensures { result ≡ (nat_lt (length clusters.now) 4 && nat_le (cpus_in clusters.now + count) 8) }
+    requires few { cpus_in clusters.now ≤ MOST_PROCESSORS }
+    requires count { count ≤ MOST_PROCESSORS }
+    ensures { result ≡ (nat_lt (length clusters.now) MOST_CLUSTERS && nat_le (cpus_in clusters.now + count) MOST_PROCESSORS) }
 {
     clusters.len() < MOST_CLUSTERS && cpus_in(clusters) + count <= MOST_PROCESSORS as u8
 }
@@ -104,8 +105,8 @@ fn has_room(clusters: &[u8], count: u8) -> bool
 /// What the words behind `init` stand for.
 #[tactic(auto, unfolding(rk_model::specs::Text::Reading::init_operands))]
 fn read_init(scenario: &Scenario, operands: &[Word]) -> Result<Init, ScenarioWhy>
-    requires clusters { length scenario.now.clusters ≤ 4 }
-    requires bodies { length scenario.now.bodies ≤ 32 }
+    requires clusters { length scenario.now.clusters ≤ MOST_CLUSTERS }
+    requires bodies { length scenario.now.bodies ≤ MOST_BODIES }
     ensures { result ≡ reading.init_operands scenario.now operands.now }
 {
     match operands {
@@ -146,8 +147,8 @@ impl Draft {
 
     /// Takes the first line.
     fn take_header(&mut self, words: &[Word]) -> Result<(), LineError>
-        requires { HasAtMost 32 self.old }
-        ensures next { Takes result (reading.at_start (draft_of self.old) words.now) self.new }
+        requires { HasAtMost MOST_BODIES self.old }
+        ensures next { Follows result (reading.at_start (draft_of self.old) words.now) self.new }
         ensures small { OnOk result (IsSmall self.new) }
     {
         if is_header(words) {
@@ -161,8 +162,8 @@ impl Draft {
     /// Takes `cluster M`, by the words behind the first.
     #[tactic(auto, unfolding(rk_model::specs::Text::Reading::cluster_line), using(crate::proofs::NumberLemmas::few_with, crate::proofs::NumberLemmas::few_cpus_with))]
     fn take_cluster(&mut self, operands: &[Word]) -> Result<(), LineError>
-        requires { HasAtMost 32 self.old }
-        ensures next { Takes result (reading.cluster_line (draft_of self.old) operands.now) self.new }
+        requires { HasAtMost MOST_BODIES self.old }
+        ensures next { Follows result (reading.cluster_line (draft_of self.old) operands.now) self.new }
         ensures small { OnOk result (IsSmall self.new) }
     {
         match operands {
@@ -183,8 +184,8 @@ impl Draft {
     /// Takes `ticks N`, by the words behind the first.
     #[tactic(auto, unfolding(rk_model::specs::Text::Reading::ticks_line))]
     fn take_ticks(&mut self, operands: &[Word]) -> Result<(), LineError>
-        requires { HasAtMost 32 self.old }
-        ensures next { Takes result (reading.ticks_line (draft_of self.old) operands.now) self.new }
+        requires { HasAtMost MOST_BODIES self.old }
+        ensures next { Follows result (reading.ticks_line (draft_of self.old) operands.now) self.new }
         ensures small { OnOk result (IsSmall self.new) }
     {
         match operands {
@@ -201,8 +202,8 @@ impl Draft {
     /// Takes `limit N`, by the words behind the first.
     #[tactic(auto, unfolding(rk_model::specs::Text::Reading::limit_line))]
     fn take_limit(&mut self, operands: &[Word]) -> Result<(), LineError>
-        requires { HasAtMost 32 self.old }
-        ensures next { Takes result (reading.limit_line (draft_of self.old) operands.now) self.new }
+        requires { HasAtMost MOST_BODIES self.old }
+        ensures next { Follows result (reading.limit_line (draft_of self.old) operands.now) self.new }
         ensures small { OnOk result (IsSmall self.new) }
     {
         match operands {
@@ -219,8 +220,8 @@ impl Draft {
     /// Takes `body B`, by the words behind the first.
     #[tactic(auto, unfolding(rk_model::specs::Text::Reading::body_line))]
     fn take_body(&mut self, alloc: Global, operands: &[Word]) -> Result<(), LineError>
-        requires { HasAtMost 32 self.old }
-        ensures next { Takes result (reading.body_line (draft_of self.old) operands.now) self.new }
+        requires { HasAtMost MOST_BODIES self.old }
+        ensures next { Follows result (reading.body_line (draft_of self.old) operands.now) self.new }
         ensures small { OnOk result (IsSmall self.new) }
     {
         match operands {
@@ -248,7 +249,7 @@ impl Draft {
     /// Takes `end`.
     fn take_end(&mut self, alloc: Global) -> Result<(), LineError>
         requires { HasAtMost 31 self.old }
-        ensures next { Takes result (Ok (reading.with_body (draft_of self.old))) self.new }
+        ensures next { Follows result (Ok (reading.with_body (draft_of self.old))) self.new }
         ensures small { OnOk result (IsSmall self.new) }
     {
         let body = std::mem::replace(&mut self.body, no_body(alloc));
@@ -262,7 +263,7 @@ impl Draft {
     fn take_inner(&mut self, words: &[Word]) -> Result<(), LineError>
         requires small { IsSmall self.old }
         requires most { HasAtMost 31 self.old }
-        ensures next { Takes result (reading.inner_line (draft_of self.old) words.now) self.new }
+        ensures next { Follows result (reading.inner_line (draft_of self.old) words.now) self.new }
         ensures small { OnOk result (IsSmall self.new) }
     {
         let op = read_op(&self.scenario, &self.body, words)?;
@@ -277,8 +278,8 @@ impl Draft {
     /// Takes `init NAME CLUSTER PRIORITY B`, by the words behind the first.
     #[tactic(auto, unfolding(rk_model::specs::Text::Reading::init_line))]
     fn take_init(&mut self, operands: &[Word]) -> Result<(), LineError>
-        requires { HasAtMost 32 self.old }
-        ensures next { Takes result (reading.init_line (draft_of self.old) operands.now) self.new }
+        requires { HasAtMost MOST_BODIES self.old }
+        ensures next { Follows result (reading.init_line (draft_of self.old) operands.now) self.new }
         ensures small { OnOk result (IsSmall self.new) }
     {
         let init = read_init(&self.scenario, operands)?;
@@ -293,8 +294,8 @@ impl Draft {
 
     /// Takes a line after the header.
     fn take_headed(&mut self, words: &[Word]) -> Result<(), LineError>
-        requires { HasAtMost 32 self.old }
-        ensures next { Takes result (reading.at_headed (draft_of self.old) words.now) self.new }
+        requires { HasAtMost MOST_BODIES self.old }
+        ensures next { Follows result (reading.at_headed (draft_of self.old) words.now) self.new }
         ensures small { OnOk result (IsSmall self.new) }
     {
         match words {
@@ -307,8 +308,8 @@ impl Draft {
 
     /// Takes a line after a cluster.
     fn take_clustered(&mut self, words: &[Word]) -> Result<(), LineError>
-        requires { HasAtMost 32 self.old }
-        ensures next { Takes result (reading.at_clustered (draft_of self.old) words.now) self.new }
+        requires { HasAtMost MOST_BODIES self.old }
+        ensures next { Follows result (reading.at_clustered (draft_of self.old) words.now) self.new }
         ensures small { OnOk result (IsSmall self.new) }
     {
         match words {
@@ -321,8 +322,8 @@ impl Draft {
 
     /// Takes a line after the ticks.
     fn take_timed(&mut self, alloc: Global, words: &[Word]) -> Result<(), LineError>
-        requires { HasAtMost 32 self.old }
-        ensures next { Takes result (reading.at_timed (draft_of self.old) words.now) self.new }
+        requires { HasAtMost MOST_BODIES self.old }
+        ensures next { Follows result (reading.at_timed (draft_of self.old) words.now) self.new }
         ensures small { OnOk result (IsSmall self.new) }
     {
         match words {
@@ -335,8 +336,8 @@ impl Draft {
 
     /// Takes a line after the limit or a whole body.
     fn take_limited(&mut self, alloc: Global, words: &[Word]) -> Result<(), LineError>
-        requires { HasAtMost 32 self.old }
-        ensures next { Takes result (reading.at_limited (draft_of self.old) words.now) self.new }
+        requires { HasAtMost MOST_BODIES self.old }
+        ensures next { Follows result (reading.at_limited (draft_of self.old) words.now) self.new }
         ensures small { OnOk result (IsSmall self.new) }
     {
         match words {
@@ -349,8 +350,8 @@ impl Draft {
 
     /// Takes a line that may follow an init line.
     fn take_last(&mut self, words: &[Word]) -> Result<(), LineError>
-        requires { HasAtMost 32 self.old }
-        ensures next { Takes result (reading.at_inits (draft_of self.old) words.now) self.new }
+        requires { HasAtMost MOST_BODIES self.old }
+        ensures next { Follows result (reading.at_inits (draft_of self.old) words.now) self.new }
         ensures small { OnOk result (IsSmall self.new) }
     {
         match words {
@@ -365,7 +366,7 @@ impl Draft {
     fn take_in_body(&mut self, alloc: Global, words: &[Word]) -> Result<(), LineError>
         requires small { IsSmall self.old }
         requires most { HasAtMost 31 self.old }
-        ensures next { Takes result (reading.in_body (draft_of self.old) words.now) self.new }
+        ensures next { Follows result (reading.in_body (draft_of self.old) words.now) self.new }
         ensures small { OnOk result (IsSmall self.new) }
     {
         if is_end(words) {
@@ -379,7 +380,7 @@ impl Draft {
     #[tactic(auto, unfolding(rk_model::specs::Text::Reading::after_words))]
     pub(crate) fn take_words(&mut self, alloc: Global, words: &[Word]) -> Result<(), LineError>
         requires { IsSmall self.old }
-        ensures next { Takes result (reading.after_words (draft_of self.old) words.now) self.new }
+        ensures next { Follows result (reading.after_words (draft_of self.old) words.now) self.new }
         ensures small { OnOk result (IsSmall self.new) }
     {
         if is_skipped(words) {

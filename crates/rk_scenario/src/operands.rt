@@ -1,9 +1,10 @@
 ghost use Rattle.std.specs.Prelude.{◌≡◌, ◌<◌, ◌≤◌, ◌+◌, ◌*◌, ◌^◌, length, min, slice_get, codes, IfSome, IfOk};
 ghost use Rattle.std.specs.Option.{option_map};
 ghost use Rattle.std.specs.List.{list_all};
+ghost use Rattle.rk_model.specs.declared.limits.TheConstants.{MOST_LINES};
 ghost use Rattle.rk_model.specs.Text.Words.{digit_value, digit_below, value_from, decimal_of, number_of, name_of, var_of, is_name_byte, is_lower, is_body_byte, is_body_name};
 ghost use Rattle.rk_model.specs.Text.Scenarios.{body_of, body_known, body_from, is_named, may_be_target, is_target};
-ghost use Rattle.rk_model.specs.Text.Reading.{known_at, number_operand, cluster_operand, var_operand, fixed_operand, id_operand, goto_operand, name_operand, name0_operand, body_operand, start_operand, either_operand, wish_operand};
+ghost use Rattle.rk_model.specs.Text.Reading.{known_at, number_operand, cluster_operand, var_operand, given_operand, fixed_operand, id_operand, address_operand, goto_operand, name_operand, name0_operand, body_operand, start_operand, either_operand, wish_operand};
 
 use rk_model::{Body, Name, Op, Scenario, ScenarioWhy, Target, Wish};
 
@@ -138,8 +139,26 @@ fn fixed_operand(word: &[u8]) -> Result<Target, ScenarioWhy>
     if word == b"self".as_slice() {
         Ok(Target::Own)
     } else {
-        let bits = number_operand(0, u32::MAX, word)?;
-        Ok(Target::Given(bits))
+        given_operand(word)
+    }
+}
+
+/// An ID or an address that is a number of 32 bits.
+fn given_operand(word: &[u8]) -> Result<Target, ScenarioWhy>
+    ensures { result ≡ given_operand word.now }
+{
+    let bits = any_operand(word)?;
+    Ok(Target::Given(bits))
+}
+
+/// An ADDRESS: a variable, or a number of 32 bits.
+#[tactic(auto, unfolding(rk_model::specs::Text::Reading::address_operand))]
+pub(crate) fn address_operand(word: &[u8]) -> Result<Target, ScenarioWhy>
+    ensures { result ≡ address_operand word.now }
+{
+    match variable(word) {
+        Some(var) => Ok(Target::Var(var)),
+        None => given_operand(word),
     }
 }
 
@@ -216,7 +235,7 @@ fn is_target(earlier: &[Op], number: u64) -> bool
 /// The number that a word spells of one of these earlier lines that isn't a goto.
 #[tactic(auto, unfolding(rk_model::specs::Text::Reading::goto_operand))]
 pub(crate) fn goto_operand(earlier: &[Op], word: &[u8]) -> Result<u32, ScenarioWhy>
-    requires { length earlier.now ≤ 1000 }
+    requires { length earlier.now ≤ MOST_LINES }
     ensures { result ≡ goto_operand earlier.now word.now }
 {
     match number(word) {

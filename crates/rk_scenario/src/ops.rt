@@ -1,10 +1,11 @@
 ghost use Rattle.std.specs.Prelude.{◌≡◌, ◌≤◌, ◌∷◌, [], length};
+ghost use Rattle.rk_model.specs.declared.limits.TheConstants.{MOST_LINES};
 ghost use Rattle.rk_model.specs.Text.Forms.{form_of};
 ghost use Rattle.rk_model.specs.Text.Reading.{known_at, op_line, line_like, form_line};
 
 use crate::operands::{
-    any_operand, goto_operand, id_operand, kind_operand, mode_operand, name_operand, name0_operand,
-    number_operand, start_operand, var_operand, wish_operand,
+    address_operand, any_operand, goto_operand, id_operand, kind_operand, mode_operand,
+    name_operand, name0_operand, number_operand, start_operand, var_operand, wish_operand,
 };
 use crate::words::Word;
 use rk_model::limits::MOST_TICKS;
@@ -15,7 +16,7 @@ use rk_model::{Body, Op, Scenario, ScenarioWhy};
 #[tactic(auto, unfolding(rk_model::specs::Text::Reading::op_line))]
 pub(crate) fn read_op(scenario: &Scenario, body: &Body, words: &[Word]) -> Result<Op, ScenarioWhy>
     requires bodies { length scenario.now.bodies ≤ 255 }
-    requires lines { length body.now.lines ≤ 1000 }
+    requires lines { length body.now.lines ≤ MOST_LINES }
     ensures { result ≡ op_line (known_at scenario.now body.now) words.now }
 {
     match words {
@@ -36,7 +37,7 @@ fn read_form(
     operands: &[Word],
 ) -> Result<Op, ScenarioWhy>
     requires bodies { length scenario.now.bodies ≤ 255 }
-    requires lines { length body.now.lines ≤ 1000 }
+    requires lines { length body.now.lines ≤ MOST_LINES }
     ensures { result ≡ form_line (known_at scenario.now body.now) (form_of form) operands.now }
 {
     match operands {
@@ -59,6 +60,16 @@ fn read_form(
             c.as_slice(),
             d.as_slice(),
         ),
+        [a, b, c, d, e] => read_five(
+            scenario,
+            body,
+            form,
+            a.as_slice(),
+            b.as_slice(),
+            c.as_slice(),
+            d.as_slice(),
+            e.as_slice(),
+        ),
         _ => Err(ScenarioWhy::NotYetBuilt),
     }
 }
@@ -67,7 +78,7 @@ fn read_form(
 #[tactic(auto, unfolding(rk_model::specs::Text::Reading::form_line, rk_model::specs::Text::Reading::operand_of))]
 fn read_one(scenario: &Scenario, body: &Body, form: Op, a: &[u8]) -> Result<Op, ScenarioWhy>
     requires bodies { length scenario.now.bodies ≤ 255 }
-    requires lines { length body.now.lines ≤ 1000 }
+    requires lines { length body.now.lines ≤ MOST_LINES }
     ensures { result ≡ form_line (known_at scenario.now body.now) (form_of form) (a.now ∷ []) }
 {
     match form {
@@ -78,6 +89,7 @@ fn read_one(scenario: &Scenario, body: &Body, form: Op, a: &[u8]) -> Result<Op, 
         Op::TaskDelete(_) => Ok(Op::TaskDelete(id_operand(a)?)),
         Op::TaskWakeAfter(_) => Ok(Op::TaskWakeAfter(any_operand(a)?)),
         Op::BarrierDelete(_) => Ok(Op::BarrierDelete(id_operand(a)?)),
+        Op::PartDelete(_) => Ok(Op::PartDelete(id_operand(a)?)),
         _ => Err(ScenarioWhy::NotYetBuilt),
     }
 }
@@ -92,7 +104,7 @@ fn read_two(
     b: &[u8],
 ) -> Result<Op, ScenarioWhy>
     requires bodies { length scenario.now.bodies ≤ 255 }
-    requires lines { length body.now.lines ≤ 1000 }
+    requires lines { length body.now.lines ≤ MOST_LINES }
     ensures { result ≡ form_line (known_at scenario.now body.now) (form_of form) (a.now ∷ b.now ∷ []) }
 {
     match form {
@@ -102,6 +114,9 @@ fn read_two(
         Op::BarrierIdent(_, _) => Ok(Op::BarrierIdent(name_operand(a)?, var_operand(b)?)),
         Op::BarrierWait(_, _) => Ok(Op::BarrierWait(id_operand(a)?, any_operand(b)?)),
         Op::BarrierRelease(_, _) => Ok(Op::BarrierRelease(id_operand(a)?, var_operand(b)?)),
+        Op::PartIdent(_, _) => Ok(Op::PartIdent(name_operand(a)?, var_operand(b)?)),
+        Op::PartGet(_, _) => Ok(Op::PartGet(id_operand(a)?, var_operand(b)?)),
+        Op::PartReturn(_, _) => Ok(Op::PartReturn(id_operand(a)?, address_operand(b)?)),
         _ => Err(ScenarioWhy::NotYetBuilt),
     }
 }
@@ -117,7 +132,7 @@ fn read_three(
     c: &[u8],
 ) -> Result<Op, ScenarioWhy>
     requires bodies { length scenario.now.bodies ≤ 255 }
-    requires lines { length body.now.lines ≤ 1000 }
+    requires lines { length body.now.lines ≤ MOST_LINES }
     ensures { result ≡ form_line (known_at scenario.now body.now) (form_of form) (a.now ∷ b.now ∷ c.now ∷ []) }
 {
     match form {
@@ -147,7 +162,7 @@ fn read_four(
     d: &[u8],
 ) -> Result<Op, ScenarioWhy>
     requires bodies { length scenario.now.bodies ≤ 255 }
-    requires lines { length body.now.lines ≤ 1000 }
+    requires lines { length body.now.lines ≤ MOST_LINES }
     ensures { result ≡ form_line (known_at scenario.now body.now) (form_of form) (a.now ∷ b.now ∷ c.now ∷ d.now ∷ []) }
 {
     match form {
@@ -162,6 +177,34 @@ fn read_four(
             kind_operand(b)?,
             any_operand(c)?,
             var_operand(d)?,
+        )),
+        _ => Err(ScenarioWhy::NotYetBuilt),
+    }
+}
+
+/// What a line of the form of this one with five operands stands for.
+#[tactic(auto, unfolding(rk_model::specs::Text::Reading::form_line, rk_model::specs::Text::Reading::operand_of))]
+fn read_five(
+    scenario: &Scenario,
+    body: &Body,
+    form: Op,
+    a: &[u8],
+    b: &[u8],
+    c: &[u8],
+    d: &[u8],
+    e: &[u8],
+) -> Result<Op, ScenarioWhy>
+    requires bodies { length scenario.now.bodies ≤ 255 }
+    requires lines { length body.now.lines ≤ MOST_LINES }
+    ensures { result ≡ form_line (known_at scenario.now body.now) (form_of form) (a.now ∷ b.now ∷ c.now ∷ d.now ∷ e.now ∷ []) }
+{
+    match form {
+        Op::PartCreate(_, _, _, _, _) => Ok(Op::PartCreate(
+            name0_operand(a)?,
+            any_operand(b)?,
+            any_operand(c)?,
+            any_operand(d)?,
+            var_operand(e)?,
         )),
         _ => Err(ScenarioWhy::NotYetBuilt),
     }

@@ -3,7 +3,7 @@ ghost use Rattle.rk_model.specs.declared.scenario.Scenario.{Scenario};
 ghost use Rattle.rk_model.specs.Text.Scenarios.{ScenarioText, IsScenario};
 ghost use Rattle.rk_model.specs.Text.Words.{lines_of, lines_from};
 ghost use Rattle.rk_model.specs.Text.Reading.{verdict, verdict_from, at_end, after_line, start};
-ghost use Rattle.rk_scenario.specs.Drafts.{draft_of, phase_of, Takes, IsSmall};
+ghost use Rattle.rk_scenario.specs.Drafts.{draft_of, phase_of, Follows, IsSmall};
 ghost use Rattle.rk_scenario.specs.ReadingAnswers.{Answers, Advances, IsRefusal, Gives};
 
 use crate::draft::{Draft, Phase};
@@ -18,7 +18,7 @@ use std::alloc::Global;
 #[tactic(auto, unfolding(rk_model::specs::Text::Reading::after_line))]
 fn take_line(alloc: Global, draft: &mut Draft, line: &[u8]) -> Result<(), LineError>
     requires { IsSmall draft.old }
-    ensures next { Takes result (after_line (draft_of draft.old) line.now) draft.new }
+    ensures next { Follows result (after_line (draft_of draft.old) line.now) draft.new }
     ensures small { OnOk result (IsSmall draft.new) }
 {
     if is_plain(line) {

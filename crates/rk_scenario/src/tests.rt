@@ -175,6 +175,26 @@ fn refuses_lines_of_managers(rt: HostRuntime) -> Result<(), Fail> {
         "barrier.delete\n",
         "barrier.delete v8\n",
         "barrier.delete v0 v1\n",
+        "part.create AAAA 0 64 8\n",
+        "part.create AAAA 0 64 8 v0 v1\n",
+        "part.create AAAAA 0 64 8 v0\n",
+        "part.create AAAA v0 64 8 v0\n",
+        "part.create AAAA 0 4294967296 8 v0\n",
+        "part.create AAAA 0 64 x v0\n",
+        "part.create AAAA 0 64 8 v8\n",
+        "part.ident - v0\n",
+        "part.ident AAAA v8\n",
+        "part.ident AAAA\n",
+        "part.get v0\n",
+        "part.get v8 v0\n",
+        "part.get v0 1\n",
+        "part.return v0\n",
+        "part.return v0 self\n",
+        "part.return v0 v8\n",
+        "part.return v0 4294967296\n",
+        "part.delete\n",
+        "part.delete v8\n",
+        "part.delete v0 v1\n",
     ];
     let open = repeated(rt.alloc(), FRONT, "body b\n", 1, "")?;
     let tail = "end\nbody c\nend\n";
@@ -305,6 +325,25 @@ fn reads_lines_of_bodies(rt: HostRuntime) -> Result<(), Fail> {
             Op::BarrierRelease(Target::Var(1), 2),
         ),
         ("barrier.delete v3\n", Op::BarrierDelete(Target::Var(3))),
+        (
+            "part.create T_1a 0x10000000 4294967295 64 v0\n",
+            Op::PartCreate(name, 0x1000_0000, 4_294_967_295, 64, 0),
+        ),
+        (
+            "part.create - 0 1 2 v7\n",
+            Op::PartCreate(Name { bits: 0 }, 0, 1, 2, 7),
+        ),
+        ("part.ident T_1a v4\n", Op::PartIdent(name, 4)),
+        ("part.get v1 v2\n", Op::PartGet(Target::Var(1), 2)),
+        (
+            "part.return self v2\n",
+            Op::PartReturn(Target::Own, Target::Var(2)),
+        ),
+        (
+            "part.return v1 0xffffffff\n",
+            Op::PartReturn(Target::Var(1), Target::Given(4_294_967_295)),
+        ),
+        ("part.delete v3\n", Op::PartDelete(Target::Var(3))),
     ];
     let open = repeated(rt.alloc(), FRONT, "body a\nend\nbody b\nwork 1\n", 1, "")?;
     for (line, op) in rows {

@@ -2,7 +2,7 @@
 use Rattle.std.proofs.Common.{◌≡◌, ℕ, ◌≤◌, true, false, Option, None, Some, IsSome, arith, refl, sym, ◌∙◌, ap, subst}
 use Rattle.std.proofs.lemmas.Bool.{false≢true}
 use Rattle.rk_model.specs.declared.scenario.Op.{Op}
-use Rattle.rk_model.specs.declared.scenario.Op.TheVariants.{TaskCreate, TaskIdent, TaskStart, TaskSuspend, TaskResume, TaskSetPriority, TaskDelete, TaskWakeAfter, EventSend, EventReceive, BarrierCreate, BarrierIdent, BarrierWait, BarrierRelease, BarrierDelete}
+use Rattle.rk_model.specs.declared.scenario.Op.TheVariants.{TaskCreate, TaskIdent, TaskStart, TaskSuspend, TaskResume, TaskSetPriority, TaskDelete, TaskWakeAfter, EventSend, EventReceive, BarrierCreate, BarrierIdent, BarrierWait, BarrierRelease, BarrierDelete, PartCreate, PartIdent, PartGet, PartReturn, PartDelete}
 use Rattle.rk_model.specs.declared.entry.Answer.{Answer}
 use Rattle.rk_model.specs.declared.entry.Reply.{Reply}
 use Rattle.rk_model.specs.declared.state.Thread.{Thread}
@@ -19,6 +19,7 @@ use Rattle.rk_kernel.proofs.GentleChangeLemmas.{gentle_same, gentle_put, gentle_
 use Rattle.rk_kernel.proofs.OutcomeLemmas.{IsFair, fair_changed, fair_after}
 use Rattle.rk_model.proofs.IndexLemmas.{nth-with_same}
 use Rattle.rk_kernel.proofs.DirectiveLemmas.BarriersLemmas.{barrier_create_fair, barrier_ident_fair, barrier_wait_fair, barrier_release_fair, barrier_delete_fair}
+use Rattle.rk_kernel.proofs.DirectiveLemmas.PartitionsLemmas.{partition_create_fair, partition_ident_fair, partition_get_fair, partition_return_fair, partition_delete_fair}
 use Rattle.rk_kernel.proofs.DirectiveLemmas.EventsLemmas.{event_send_fair, event_receive_fair}
 use Rattle.rk_kernel.proofs.DirectiveLemmas.TasksLemmas.{task_create_fair, task_ident_fair, task_start_fair, task_suspend_fair, task_resume_fair, task_set_priority_fair, task_delete_fair, task_exit_fair, task_wake_after_fair}
 
@@ -39,6 +40,11 @@ line_fair k t (BarrierIdent name var) caller = barrier_ident_fair k t name.bits 
 line_fair k t (BarrierWait id ticks) caller = barrier_wait_fair k t id ticks caller
 line_fair k t (BarrierRelease id var) caller = barrier_release_fair k t id caller
 line_fair k t (BarrierDelete id) caller = barrier_delete_fair k t id caller
+line_fair k t (PartCreate name start length size var) caller = partition_create_fair k t name.bits start length size caller
+line_fair k t (PartIdent name var) caller = partition_ident_fair k t name.bits caller
+line_fair k t (PartGet id var) caller = partition_get_fair k t id caller
+line_fair k t (PartReturn id address) caller = partition_return_fair k t id address caller
+line_fair k t (PartDelete id) caller = partition_delete_fair k t id caller
 line_fair k t _ caller = task_exit_fair k t caller.acts caller.returns_not
 
 -- what an action owes to the state that settles: one that goes on lives, and the change is gentle before the thread goes on, and after

@@ -1,5 +1,5 @@
 -- The directives of the barrier manager are fair.
-use Rattle.std.proofs.Common.{◌≡◌, ◌≢◌, ℕ, ◌+◌, ◌≤◌, ◌==◌, not, List, [], ◌∷◌, Bool, true, false, cond, Option, None, Some, arith, refl, sym, ap, ◌∙◌, subst}
+use Rattle.std.proofs.Common.{◌≡◌, ◌≢◌, ℕ, ◌+◌, ◌==◌, not, List, [], ◌∷◌, Bool, true, false, cond, Option, None, Some, arith, refl, sym, ap, ◌∙◌}
 use Rattle.std.proofs.lemmas.Bool.{false≢true}
 use Rattle.rk_model.specs.declared.entry.Reply.{Reply}
 use Rattle.rk_model.specs.declared.ids.Class.TheVariants.{Barrier}
@@ -11,18 +11,19 @@ use Rattle.rk_model.specs.declared.status.Status.{Status}
 use Rattle.rk_model.specs.declared.status.Status.TheVariants.{Successful, ObjectWasDeleted}
 use Rattle.rk_model.specs.Lists.{nth, times}
 use Rattle.rk_model.specs.Names.{taken}
-use Rattle.rk_model.specs.State.{Plain, BarrierState, no_thread, no_barrier, thread_at, barrier_at, put_barrier}
-use Rattle.rk_model.specs.Directives.Objects.{has_begun, live_one, object_named, put_names, without_object}
+use Rattle.rk_model.specs.State.{Plain, BarrierState, objects_of, no_thread, no_barrier, thread_at, barrier_at, put_barrier}
+use Rattle.rk_model.specs.Directives.Objects.{object_named, put_names, without_object}
 use Rattle.rk_model.specs.Directives.Waits.{OfBarrier, object_of_wait, is_for, without, without_arrival, end_wait, end_each, bare}
 use Rattle.rk_model.specs.Directives.Barriers.{new_barrier, most_refusal, barrier_create, barrier_ident, end_at, is_full, barrier_wait, barrier_release, without_barrier, barrier_delete}
 use Rattle.rk_model.proofs.BooleanLemmas.{equal_test, same_number}
 use Rattle.rk_model.proofs.IndexLemmas.{nth-with_same, nth-with_other, length-with_nth}
 use Rattle.rk_kernel.specs.Calls.{IsCaller}
-use Rattle.rk_kernel.specs.Sound.{IsSound, IsGentle, but_none, is_waiting, is_in_call}
-use Rattle.rk_kernel.proofs.NamesAgreeLemmas.{first_place, named_placed, named_vacated}
+use Rattle.rk_kernel.specs.Sound.{IsSound, IsGentle, but_none, is_waiting}
+use Rattle.rk_kernel.proofs.DirectiveLemmas.ObjectsLemmas.{named_lives}
+use Rattle.rk_kernel.proofs.NamesAgreeLemmas.{first_free, named_placed, named_vacated}
 use Rattle.rk_kernel.proofs.TieLemmas.{live_within, tied_barrier}
 use Rattle.rk_kernel.proofs.GentleChangeLemmas.{gentle_same, gentle_but, gentle_end_wait, Stays}
-use Rattle.rk_kernel.proofs.OutcomeLemmas.{IsFair, gentle_limited, fair_done, fair_waiting, fair_found, fair_create, fair_ident, fair_if}
+use Rattle.rk_kernel.proofs.OutcomeLemmas.{stays_as, IsFair, gentle_limited, fair_done, fair_waiting, fair_found, fair_create, fair_ident, fair_if}
 
 -- ---- waits that end one after another
 
@@ -89,36 +90,19 @@ ends k m i (u ∷ us) reply t thread sound gentle stand live is free =
 pub ended_at : (k : Plain) (t i : ℕ) (status : Status) → IsCaller k t → (barrier_at k i).live ≡ true → HaveEnded k (end_at k i status) i t (thread_at k t)
 ended_at k t i status caller live = ends k k i (barrier_at k i).arrivals (bare status) t (thread_at k t) caller.acts.sound (gentle_same k caller.acts.sound) refl live refl (ap is_waiting caller.acts.waits_not)
 
--- a caller that is as before can go on
-stays_as : (k next : Plain) (t : ℕ) → IsCaller k t → IsGentle k next → thread_at next t ≡ thread_at k t → Stays k next t
-stays_as k next t caller gentle is = record {
-  gentle = gentle;
-  lives = ap (λ (x : Thread). has_begun x.life) is ∙ ap has_begun caller.acts.started;
-  line = subst (λ (x : Thread). x.line ≤ 1000) (sym is) caller.line;
-  free = ap (λ (x : Thread). is_in_call x.wait x.finished) is ∙ (rw (caller.acts.waits_not, caller.returns_not) refl);
-}
-
 pub ended_stays : (k : Plain) (t i : ℕ) (status : Status) → IsCaller k t → (barrier_at k i).live ≡ true → Stays k (end_at k i status) t
 ended_stays k t i status caller live = let e = ended_at k t i status caller live in stays_as k (end_at k i status) t caller e.gentle e.stays
 
 -- ---- the directives
 
-live_by : (k : Plain) (i j : ℕ) (b : Bool) → (barrier_at k i).live ≡ b → cond b (Some i) None ≡ Some j → (barrier_at k j).live ≡ true
-live_by k i j true e is = let same : i ≡ j = cc in ap (λ n. (barrier_at k n).live) (sym same) ∙ e
-live_by k i j false e is = let no : ⊥ = cc in absurd no
-
-live_found : (k : Plain) (o : Option ℕ) (j : ℕ) → live_one k Barrier o ≡ Some j → (barrier_at k j).live ≡ true
-live_found k None j is = let no : ⊥ = cc in absurd no
-live_found k (Some i) j is = live_by k i j (barrier_at k i).live refl is
-
 -- a barrier that a caller asks for lives
 pub barrier_lives : (k : Plain) (t : ℕ) (id : Target) (i : ℕ) → object_named k t Barrier id ≡ Some i → (barrier_at k i).live ≡ true
-barrier_lives k t id i is = live_found k _ i is
+barrier_lives k t id i is = named_lives k t Barrier id i is
 
 -- a barrier is put at an index where none lives
 placed : (k : Plain) (index : ℕ) (free : List ℕ) (name : ℕ) (automatic : Bool) (most : ℕ) → IsSound k → k.table.barriers.free ≡ index ∷ free → IsGentle k (put_barrier (put_names k Barrier (taken k.table.barriers index free name)) index (new_barrier automatic most))
 placed k index free name automatic most sound is =
-    let f = first_place k.table k.threads k.barriers index free sound.named is in
+    let f = first_free k.table (objects_of k) Barrier index free sound.named is in
     let barrier = new_barrier automatic most in
     let same = gentle_same k sound in
     record {
@@ -126,10 +110,11 @@ placed k index free name automatic most sound is =
       present = refl;
       places = refl;
       halls = length-with_nth barrier k.barriers index;
+      pools = refl;
       threads = same.threads;
       lines = same.lines;
       timers = same.timers;
-      named = named_placed k.table k.threads k.barriers index free name barrier sound.named sound.halls is refl;
+      named = named_placed k.table (objects_of k) index free name barrier sound.named sound.halls is refl;
       tied = tied_barrier k.barriers k.threads k.clusters but_none index barrier (ap (λ (x : BarrierState). x.arrivals) (sym (sound.named.bare index f.absent))) sound.tied;
     }
 
@@ -155,10 +140,11 @@ removed k m i sound gentle emptied live = record {
   present = gentle.present;
   places = gentle.places;
   halls = length-with_nth no_barrier m.barriers i ∙ gentle.halls;
+  pools = gentle.pools;
   threads = gentle.threads;
   lines = gentle.lines;
   timers = gentle.timers;
-  named = named_vacated m.table m.threads m.barriers i gentle.named (gentle.halls ∙ sound.halls) live;
+  named = named_vacated m.table (objects_of m) i gentle.named (gentle.halls ∙ sound.halls) live;
   tied = tied_barrier m.barriers m.threads m.clusters but_none i no_barrier (sym emptied) gentle.tied;
 }
 

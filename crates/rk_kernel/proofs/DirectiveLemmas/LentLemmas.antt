@@ -7,7 +7,7 @@ use Rattle.rk_model.specs.declared.entry.Reply.{Reply}
 use Rattle.rk_model.specs.declared.ids.Class.TheVariants.{Task}
 use Rattle.rk_model.specs.declared.scenario.Scenario.{Scenario}
 use Rattle.rk_model.specs.declared.scenario.Target.{Target}
-use Rattle.rk_model.specs.declared.status.Status.TheVariants.{Successful}
+use Rattle.rk_model.specs.declared.status.Status.TheVariants.{Successful, InvalidId}
 use Rattle.rk_model.specs.declared.state.Armed.{Armed}
 use Rattle.rk_model.specs.declared.state.Armer.TheVariants.{Thread as OfThread}
 use Rattle.rk_model.specs.declared.state.Thread.{Thread}
@@ -26,14 +26,14 @@ use Rattle.rk_model.specs.Directives.Tasks.{task_named, task_delete, without_tas
 use Rattle.rk_parts.specs.declared.parts.ClusterPart.{ClusterPart}
 use Rattle.rk_parts.specs.declared.parts.GroupPart.{GroupPart}
 use Rattle.rk_parts.specs.declared.parts.AllParts.{AllParts}
-use Rattle.rk_parts.specs.Joined.{barriers_of, joined, lent, present_of, threads_of, thread_lent, timers_lent, plain_of}
+use Rattle.rk_parts.specs.Joined.{joined, lent, present_of, threads_of, thread_lent, timers_lent, plain_of}
 use Rattle.rk_parts.specs.Groups.{Leaves}
 use Rattle.rk_model.proofs.IndexLemmas.{nth-with_kept}
 use Rattle.rk_parts.specs.Lent.{number_in, AreLaid, layouts, Frame, frame, Puts, Replaces, PutsTimers, with_timers}
 use Rattle.rk_parts.specs.Noted.{part_at}
 use Rattle.rk_parts.specs.Whole.{AreWhole}
 use Rattle.rk_parts.proofs.GroupLemmas.{left_joined}
-use Rattle.rk_parts.proofs.PutLemmas.{length_clusters}
+use Rattle.rk_parts.proofs.PutLemmas.{put_joined, length_clusters}
 use Rattle.rk_parts.proofs.LentTimerLemmas.{timers_home}
 use Rattle.rk_parts.proofs.WholeLemmas.{lent_whole}
 use Rattle.rk_parts.proofs.HeldLemmas.{lives_found, found_lives, held_found}
@@ -59,7 +59,7 @@ home_known counts parts t laid lives =
 
 -- the state after a thread was put
 pub puts_state : (s : Scenario) (table : Table) (groups : List GroupPart) (old new : List ClusterPart) (t : ℕ) (x : Thread) → Puts old t x new → joined s table new groups ≡ put_thread (joined s table old groups) t x
-puts_state s table groups old new t x puts = λ i. record { scenario = s; present = puts.present i; clusters = puts.clusters i s.clusters; threads = puts.threads i; barriers = barriers_of groups; table = table }
+puts_state s table groups old new t x puts = put_joined s table groups old new t x puts.present (λ i. puts.clusters i s.clusters) puts.threads
 
 same_thread : (old mid : List ClusterPart) (t : ℕ) → threads_of mid ≡ threads_of old → thread_lent mid t ≡ thread_lent old t
 same_thread old mid t e = ap (λ (ts : List Thread). nth no_thread ts t) e
@@ -149,6 +149,48 @@ both_of s change old new groups becomes = record { state = λ table. becomes.sta
 -- a row that is lent parts of clusters alone
 pub does_both : (s : Scenario) (row : Plain → Outcome) (answer : Answer) (old new : List ClusterPart) (groups : List GroupPart) → Does s row answer old new → DoesBoth s row answer old groups new groups
 does_both s row answer old new groups does = record { told = λ table. does.told table groups; state = λ table. does.state table groups; kept = does.kept; framed = refl }
+
+-- a row on what a caller asks for, which isn't found,
+pub unknown_both : (s : Scenario) (old : List ClusterPart) (groups : List GroupPart) (named : Plain → Option ℕ) (row : Plain → ℕ → Outcome) → ((table : Table) → named (joined s table old groups) ≡ None) → DoesBoth s (λ k. on_found (named k) (row k)) (told.Refused InvalidId) old groups old groups
+unknown_both s old groups named row none = record {
+  told = λ table. (let k = joined s table old groups in ap (λ o. answer_of (on_found o (row k))) (sym (none table)));
+  state = λ table laid. (let k = joined s table old groups in ap (λ o. changed k (on_found o (row k))) (sym (none table)));
+  kept = refl;
+  framed = refl;
+}
+
+-- and is
+pub found_both : (s : Scenario) (old new : List ClusterPart) (groups groups' : List GroupPart) (named : Plain → Option ℕ) (row : Plain → ℕ → Outcome) (i : ℕ) (answer : Answer) → ((table : Table) → named (joined s table old groups) ≡ Some i) → DoesBoth s (λ k. row k i) answer old groups new groups' → DoesBoth s (λ k. on_found (named k) (row k)) answer old groups new groups'
+found_both s old new groups groups' named row i answer found does = record {
+  told = λ table. (let k = joined s table old groups in does.told table ∙ ap (λ o. answer_of (on_found o (row k))) (sym (found table)));
+  state = λ table laid. (let k = joined s table old groups in does.state table laid ∙ ap (λ o. changed k (on_found o (row k))) (sym (found table)));
+  kept = does.kept;
+  framed = does.framed;
+}
+
+-- the same of a row that is lent the table too
+pub unknown_every : (s : Scenario) (old : List ClusterPart) (groups : List GroupPart) (table : Table) (named : Plain → Option ℕ) (row : Plain → ℕ → Outcome) → named (joined s table old groups) ≡ None → DoesEvery s (λ k. on_found (named k) (row k)) (told.Refused InvalidId) old groups table old groups table
+unknown_every s old groups table named row none =
+    let k = joined s table old groups in
+    record {
+      told = ap (λ o. answer_of (on_found o (row k))) (sym none);
+      state = λ laid. ap (λ o. changed k (on_found o (row k))) (sym none);
+      laid = λ laid. laid;
+      kept = refl;
+      framed = refl;
+    }
+
+-- and needs no part of a cluster once it is found
+pub found_grouped : (s : Scenario) (old : List ClusterPart) (groups groups' : List GroupPart) (table table' : Table) (named : Plain → Option ℕ) (row : Plain → ℕ → Outcome) (i : ℕ) (answer : Answer) → named (joined s table old groups) ≡ Some i → DoesGroups s (λ k. row k i) answer groups table groups' table' → DoesEvery s (λ k. on_found (named k) (row k)) answer old groups table old groups' table'
+found_grouped s old groups groups' table table' named row i answer found does =
+    let k = joined s table old groups in
+    record {
+      told = does.told old ∙ ap (λ o. answer_of (on_found o (row k))) (sym found);
+      state = λ laid. does.state old ∙ ap (λ o. changed k (on_found o (row k))) (sym found);
+      laid = λ laid. laid;
+      kept = refl;
+      framed = does.framed;
+    }
 
 -- a row that comes to waiting in the state that the parts become
 pub waits : (s : Scenario) (row : Plain → Outcome) (change : Plain → Plain) (old new : List ClusterPart) → ((k : Plain) → row k ≡ Waiting (change k)) → Becomes s change old new → Does s row told.Waiting old new

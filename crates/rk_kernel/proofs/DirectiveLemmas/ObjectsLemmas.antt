@@ -1,5 +1,5 @@
 -- What the making of an object of any class comes to.
-use Rattle.std.proofs.Common.{◌≡◌, ℕ, List, Option, None, Ok, Err, refl, sym, ap, ◌∙◌}
+use Rattle.std.proofs.Common.{◌≡◌, ℕ, List, Bool, true, false, cond, Option, Some, None, Ok, Err, refl, sym, ap, ◌∙◌}
 use Rattle.rk_model.specs.declared.entry.Answer.{Answer}
 use Rattle.rk_model.specs.declared.entry.Answer.TheVariants.{Done}
 use Rattle.rk_model.specs.declared.entry.Answer.TheVariants as told
@@ -10,7 +10,8 @@ use Rattle.rk_model.specs.declared.status.Status.TheVariants.{Successful}
 use Rattle.rk_model.specs.Ids.{id_of}
 use Rattle.rk_model.specs.Names.{Table}
 use Rattle.rk_model.specs.State.{Plain}
-use Rattle.rk_model.specs.Directives.Objects.{create}
+use Rattle.rk_model.specs.declared.scenario.Target.{Target}
+use Rattle.rk_model.specs.Directives.Objects.{is_live, live_one, object_named, create}
 use Rattle.rk_model.specs.Directives.Outcomes.{answer_of, changed}
 use Rattle.rk_parts.specs.declared.parts.ClusterPart.{ClusterPart}
 use Rattle.rk_parts.specs.declared.parts.GroupPart.{GroupPart}
@@ -36,3 +37,17 @@ refused s class name refusal put status old table table' creates = record {
   laid = λ lies. lies;
   kept = refl;
 }
+
+-- ---- objects that a caller asks for
+
+live_by : (k : Plain) (class : Class) (i j : ℕ) (b : Bool) → is_live k class i ≡ b → cond b (Some i) None ≡ Some j → is_live k class j ≡ true
+live_by k class i j true e is = let same : i ≡ j = cc in ap (is_live k class) (sym same) ∙ e
+live_by k class i j false e is = let no : ⊥ = cc in absurd no
+
+live_found : (k : Plain) (class : Class) (o : Option ℕ) (j : ℕ) → live_one k class o ≡ Some j → is_live k class j ≡ true
+live_found k class None j is = let no : ⊥ = cc in absurd no
+live_found k class (Some i) j is = live_by k class i j (is_live k class i) refl is
+
+-- one that is found lives
+pub named_lives : (k : Plain) (t : ℕ) (class : Class) (id : Target) (i : ℕ) → object_named k t class id ≡ Some i → is_live k class i ≡ true
+named_lives k t class id i is = live_found k class _ i is

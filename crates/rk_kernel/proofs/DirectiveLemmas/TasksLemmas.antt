@@ -11,7 +11,7 @@ use Rattle.rk_model.specs.declared.state.Thread.{Thread}
 use Rattle.rk_model.specs.declared.state.Wait.TheVariants.{ForTime}
 use Rattle.rk_model.specs.declared.state.Armer.TheVariants.{Thread as OfThread}
 use Rattle.rk_model.specs.Names.{with_names, taken, given_back}
-use Rattle.rk_model.specs.State.{Plain, no_thread, thread_at, put_thread}
+use Rattle.rk_model.specs.State.{Plain, objects_of, no_thread, thread_at, put_thread}
 use Rattle.rk_model.specs.Scheduling.Timers.{cancel}
 use Rattle.rk_model.specs.Scheduling.Priorities.{is_started}
 use Rattle.rk_model.specs.Lists.{nth}
@@ -69,7 +69,7 @@ made_task k t index free name prio = put_thread (put_names k Task (taken k.table
 
 made_task_gentle : (k : Plain) (t index : ℕ) (free : List ℕ) (name prio : ℕ) → IsSound k → k.table.tasks.free ≡ index ∷ free → IsGentle k (made_task k t index free name prio)
 made_task_gentle k t index free name prio sound is =
-    let f = first_free k.table k.threads k.barriers index free sound.named is in
+    let f = first_free k.table (objects_of k) Task index free sound.named is in
     let blank = sound.named.blank index f.absent in
     let made = dormant_in (thread_at k t).home prio in
     let idle = absent_idle (thread_at k index).life f.absent in
@@ -79,19 +79,20 @@ made_task_gentle k t index free name prio sound is =
       present = refl;
       places = length-with_nth made k.threads index;
       halls = refl;
+      pools = refl;
       threads = All-with_nth (IsInBounds k.scenario (length k.clusters) k.present) made k.threads index (blank_bounds k.scenario (length k.clusters) k.present Dormant (thread_at k t).home prio (bounds_at k t sound).home) sound.threads;
       lines = keeps_same k.clusters;
       timers = timed_kept k.threads (made_task k t index free name prio).threads 0 k.clusters
           (λ d u is. ap (λ (x : Thread). (eqb x.home d) && is_waiting x.wait) (nth-with_other no_thread made k.threads index u (λ e. false≢true (sym waits_not ∙ ap (λ v. is_waiting (thread_at k v).wait) (sym e) ∙ and_back (eqb (thread_at k u).home d) (is_waiting (thread_at k u).wait) is))) ∙ is)
           (timed_sound k 0 k.clusters sound.clusters);
-      named = named_made k.table k.threads k.barriers index free name made sound.named sound.places is refl;
+      named = named_made k.table (objects_of k) index free name made sound.named sound.places is refl;
       tied = tied_idle k.barriers k.threads k.clusters index made f.low (omega (arith, f.high, sound.places)) refl (λ object. sound.tied.queued index refl object ∙ ap (λ (x : Thread). cond (is_for (object_of_wait x.wait) object) 1 0) blank) (tied_but k.barriers k.threads k.clusters index sound.tied);
     }
 
 made_task_stays : (k : Plain) (t index : ℕ) (free : List ℕ) (name prio : ℕ) → IsCaller k t → k.table.tasks.free ≡ index ∷ free → Stays k (made_task k t index free name prio) t
 made_task_stays k t index free name prio caller is =
     let sound = caller.acts.sound in
-    let f = first_free k.table k.threads k.barriers index free sound.named is in
+    let f = first_free k.table (objects_of k) Task index free sound.named is in
     let other = live_apart k t index (ap has_begun caller.acts.started) f.absent in
     stays_apart k k (made_task k t index free name prio) t index (dormant_in (thread_at k t).home prio) (stays_same k t caller) other refl (made_task_gentle k t index free name prio sound is)
 
@@ -150,7 +151,7 @@ without_task_gentle k u sound live =
     let w = lives_within k.threads u live in
     gentle_unarmed k (cancel (leave k u) h (OfThread u)) u no_thread (with_names Task (given_back k.table.tasks u) k.table) (gentle_cancel k (leave k u) h u left) w.0 w.1 (cancelled k (leave k u) (but_one u) u left) refl
     (left_gone k.barriers u (object_of_wait (thread_at k u).wait) stood)
-    (named_removed k.table k.threads (leave k u).barriers u left.named sound.places live)
+    (named_removed k.table (objects_of (leave k u)) u left.named sound.places live)
     (none_bounds k.scenario (length k.clusters) k.present sound.some_cluster)
 
 pub task_delete_fair : (k : Plain) (t : ℕ) (id : Target) → IsCaller k t → IsFair k t (task_delete k t id)

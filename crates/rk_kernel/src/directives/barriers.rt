@@ -1,21 +1,23 @@
 //! The directives of the barrier manager.
 
 ghost use Rattle.std.specs.Prelude.{◌≡◌, ◌≤◌, [], ℕ, IfSome, None, Some, length, true};
+ghost use Rattle.rk_model.specs.declared.limits.TheConstants.{MOST_OBJECTS};
 ghost use Rattle.rk_model.specs.declared.ids.Class.TheVariants.{Barrier};
 ghost use Rattle.rk_model.specs.declared.scenario.Scenario.{Scenario as ScenarioView};
 ghost use Rattle.rk_model.specs.declared.state.Armer.TheVariants.{Thread as OfThread};
 ghost use Rattle.rk_model.specs.declared.status.Status.TheVariants.{Successful};
 ghost use Rattle.rk_model.specs.Directives.Barriers.{most_refusal, barrier_create, barrier_ident, end_at, barrier_wait, barrier_release, without_barrier, barrier_delete};
-ghost use Rattle.rk_model.specs.Directives.Objects.{begun_in, bits_of, has_begun, object_named};
+ghost use Rattle.rk_model.specs.Directives.Objects.{has_begun, object_named};
+ghost use Rattle.rk_model.specs.Scheduling.Priorities.{home_prio};
 ghost use Rattle.rk_model.specs.Scheduling.Timers.{times_armed};
 ghost use Rattle.rk_model.specs.State.{Plain};
 ghost use Rattle.rk_kernel.specs.Does.{BecomesBoth, BecomesEvery, DoesBoth, DoesEvery, DoesGroups, IsQueueOf, Tells, lent_both, with_table};
 ghost use Rattle.rk_parts.specs.Groups.{is_lent};
-ghost use Rattle.rk_parts.specs.Joined.{barrier_lent, barriers_of, lent, thread_lent, timers_lent};
+ghost use Rattle.rk_parts.specs.Joined.{barrier_lent, lent, thread_lent, timers_lent};
 ghost use Rattle.rk_parts.specs.NamesAgree.{IsNamed};
 
-use crate::directives::objects::{create, ident, remove};
-use crate::directives::outcomes::{done, value_in};
+use crate::directives::objects::{bits_of, create, ident, remove};
+use crate::directives::outcomes::done;
 use crate::directives::waits::{start_limited, wake_all};
 use rk_model::{Answer, Caller, Class, Id, Name, Status, Target, ThreadIx, Wait};
 use rk_parts::groups::{self, is_live, wakes_of};
@@ -23,17 +25,6 @@ use rk_parts::lent::thread_of;
 use rk_parts::parts::{ClusterPart, GroupPart};
 use rk_parts::standing::prio_at_home;
 use rk_parts::table::Table;
-
-/// The bits of an id that a caller gives.
-fn bits_of(clusters: &[ClusterPart], caller: ThreadIx, id: Target) -> u32
-    ensures { result ≡ bits_of (lent clusters.now) caller id }
-{
-    match id {
-        Target::Var(var) => value_in(thread_of(clusters, caller), var),
-        Target::Own => Id::of(Class::Task, u16::from(caller.at())).bits,
-        Target::Given(bits) => bits,
-    }
-}
 
 /// The index of the barrier that a caller asks for; `None` exactly where the id is unknown.
 fn barrier_named(
@@ -44,7 +35,7 @@ fn barrier_named(
 ) -> Option<u16>
     ensures found { result ≡ object_named (lent_both clusters.now groups.now) caller Barrier id }
     ensures low { IfSome result (λ i. 1 ≤ i) }
-    ensures high { IfSome result (λ i. i ≤ 64) }
+    ensures high { IfSome result (λ i. i ≤ MOST_OBJECTS) }
     ensures lives { IfSome result (λ i. (barrier_lent groups.now i).live ≡ true) }
 {
     let bits = bits_of(clusters, caller, id);
@@ -58,7 +49,9 @@ fn barrier_named(
 
 /// The caller as a manager sees it.
 fn caller_of(clusters: &[ClusterPart], caller: ThreadIx) -> Caller
-    ensures { result.thread ≡ caller }
+    ensures thread { result.thread ≡ caller }
+    ensures home { result.home ≡ (thread_lent clusters.now caller).home }
+    ensures prio { result.prio ≡ home_prio (lent clusters.now) caller }
 {
     Caller {
         thread: caller,
@@ -88,8 +81,8 @@ pub(crate) fn barrier_create(
     automatic: bool,
     most: u32,
 ) -> Answer
-    requires named { IsNamed names.old.barriers (begun_in [] (barriers_of groups.old) Barrier) }
-    requires lent { (i : ℕ) → 1 ≤ i → i ≤ 64 → is_lent groups.old i ≡ true }
+    requires named { IsNamed names.old.barriers (λ i. (barrier_lent groups.old i).live) }
+    requires lent { (i : ℕ) → 1 ≤ i → i ≤ MOST_OBJECTS → is_lent groups.old i ≡ true }
     ensures { (s : ScenarioView) → DoesGroups s (λ k. barrier_create k name.bits automatic most) result groups.old names.old groups.new names.new }
 {
     match create(names, Class::Barrier, name, most_refusal(automatic, most)) {
@@ -143,7 +136,7 @@ pub(crate) fn barrier_wait(
 /// Ends all waits at a barrier, and gives their number.
 fn release_all(clusters: &mut [ClusterPart], groups: &mut [GroupPart], index: u16) -> u32
     requires low { 1 ≤ index }
-    requires high { index ≤ 64 }
+    requires high { index ≤ MOST_OBJECTS }
     requires live { (barrier_lent groups.old index).live ≡ true }
     requires queue { IsQueueOf clusters.old groups.old index }
     ensures state { (s : ScenarioView) → BecomesBoth s (λ k. end_at k index Successful) clusters.old groups.old clusters.new groups.new }
@@ -179,10 +172,10 @@ fn without_barrier(
     index: u16,
 )
     requires low { 1 ≤ index }
-    requires high { index ≤ 64 }
+    requires high { index ≤ MOST_OBJECTS }
     requires live { (barrier_lent groups.old index).live ≡ true }
     requires queue { IsQueueOf clusters.old groups.old index }
-    requires named { IsNamed names.old.barriers (begun_in [] (barriers_of groups.old) Barrier) }
+    requires named { IsNamed names.old.barriers (λ i. (barrier_lent groups.old i).live) }
     ensures { (s : ScenarioView) → BecomesEvery s (λ k. without_barrier k index) clusters.old groups.old names.old clusters.new groups.new names.new }
 {
     groups::remove(groups, index);
@@ -200,7 +193,7 @@ pub(crate) fn barrier_delete(
     id: Target,
 ) -> Answer
     requires queue { (i : ℕ) → object_named (lent_both clusters.old groups.old) caller Barrier id ≡ Some i → IsQueueOf clusters.old groups.old i }
-    requires named { IsNamed names.old.barriers (begun_in [] (barriers_of groups.old) Barrier) }
+    requires named { IsNamed names.old.barriers (λ i. (barrier_lent groups.old i).live) }
     ensures { (s : ScenarioView) → DoesEvery s (λ k. barrier_delete k caller id) result clusters.old groups.old names.old clusters.new groups.new names.new }
 {
     match barrier_named(clusters, groups, caller, id) {

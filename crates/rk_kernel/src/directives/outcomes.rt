@@ -9,7 +9,7 @@ ghost use Rattle.rk_model.specs.declared.scenario.Scenario.{Scenario as Scenario
 ghost use Rattle.rk_model.specs.Directives.Objects.{has_begun};
 ghost use Rattle.rk_model.specs.Directives.Lines.{result_var};
 ghost use Rattle.rk_model.specs.Directives.Outcomes.{stored as stored_in, finished, concluded, status_of, out_of, last_of};
-ghost use Rattle.rk_kernel.specs.Does.{Becomes, goes_on_after};
+ghost use Rattle.rk_kernel.specs.Does.{Becomes, answered, goes_on_after};
 ghost use Rattle.rk_parts.specs.Joined.{thread_lent};
 ghost use Rattle.rk_parts.specs.Lent.{Puts};
 
@@ -37,6 +37,9 @@ fn result_var(op: Option<Op>) -> Option<u8>
         Some(Op::BarrierCreate(_, _, _, var)) => Some(var),
         Some(Op::BarrierIdent(_, var)) => Some(var),
         Some(Op::BarrierRelease(_, var)) => Some(var),
+        Some(Op::PartCreate(_, _, _, _, var)) => Some(var),
+        Some(Op::PartIdent(_, var)) => Some(var),
+        Some(Op::PartGet(_, var)) => Some(var),
         _ => None,
     }
 }
@@ -51,7 +54,7 @@ pub(crate) fn value_in(thread: Thread, var: u8) -> u32
     }
 }
 
-/// Variables of which one, if it is told, has another value.
+/// Variables of which one, if there is one, has another value.
 fn store(vars: [u32; 8], var: Option<u8>, value: u32) -> [u32; 8]
     ensures { result ≡ stored_in var vars value }
 {
@@ -75,9 +78,19 @@ fn go_on(scenario: &Scenario, clusters: &mut [ClusterPart], caller: ThreadIx, ou
     let thread = thread_of(clusters, caller);
     let var = result_var(scenario.op_at(thread.body, thread.line));
     let vars = store(thread.vars, var, out);
-    let told = Thread { vars, ..thread };
-    let moved = arrive(scenario, told, told.line + 1);
+    let stored = Thread { vars, ..thread };
+    let moved = arrive(scenario, stored, stored.line + 1);
     renew(clusters, caller, moved);
+}
+
+/// What a caller is answered where the manager of an object has given this reply: it is done, or refused.
+pub(crate) fn answered(reply: Reply) -> Answer
+    ensures { result ≡ answered reply }
+{
+    match reply.status {
+        Status::Successful => Answer::Done(Status::Successful, reply.out, None),
+        status => Answer::Refused(status),
+    }
 }
 
 /// A reply without an out number.

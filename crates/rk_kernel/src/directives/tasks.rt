@@ -6,13 +6,13 @@ ghost use Rattle.rk_model.specs.declared.scenario.Scenario.{Scenario as Scenario
 ghost use Rattle.rk_model.specs.declared.state.Armer.TheVariants.{Thread as OfThread};
 ghost use Rattle.rk_model.specs.declared.state.Life.TheVariants.{Started};
 ghost use Rattle.rk_model.specs.State.{Plain};
-ghost use Rattle.rk_model.specs.Directives.Objects.{has_begun, begun_in, object_of};
+ghost use Rattle.rk_model.specs.Directives.Objects.{has_begun, object_of};
 ghost use Rattle.rk_model.specs.Directives.Tasks.{task_of, task_named, dormant_in, prio_refusal, task_create, task_ident, is_dormant, task_start, task_suspend, task_resume, task_set_priority, without_task, task_delete, task_exit, task_wake_after};
 ghost use Rattle.rk_model.specs.Directives.Outcomes.{arrived};
 ghost use Rattle.rk_model.specs.Limits.{AreRunnable};
 ghost use Rattle.rk_model.specs.Scheduling.Timers.{times_armed};
 ghost use Rattle.rk_kernel.specs.Does.{BecomesEvery, Does, DoesEvery, DoesWide, Tells, with_table};
-ghost use Rattle.rk_parts.specs.Joined.{lent, thread_lent, threads_of, timers_lent};
+ghost use Rattle.rk_parts.specs.Joined.{lent, thread_lent, timers_lent};
 ghost use Rattle.rk_parts.specs.Lent.{number_in, Puts};
 ghost use Rattle.rk_parts.specs.NamesAgree.{IsNamed};
 
@@ -113,7 +113,7 @@ pub(crate) fn task_create(
 ) -> Answer
     requires lives { has_begun (thread_lent clusters.old caller).life ≡ true }
     requires lent { IsSome (number_in clusters.old (thread_lent clusters.old caller).home) }
-    requires named { IsNamed names.old.tasks (begun_in (threads_of clusters.old) [] Task) }
+    requires named { IsNamed names.old.tasks (λ t. has_begun (thread_lent clusters.old t).life) }
     ensures { (s : ScenarioView) → DoesWide s (λ k. task_create k caller name.bits prio) result clusters.old names.old clusters.new names.new }
 {
     let home = thread_of(clusters, caller).home;
@@ -283,7 +283,7 @@ fn without_task(
     task: ThreadIx,
 )
     requires lives { has_begun (thread_lent clusters.old task).life ≡ true }
-    requires named { IsNamed names.old.tasks (begun_in (threads_of clusters.old) [] Task) }
+    requires named { IsNamed names.old.tasks (λ t. has_begun (thread_lent clusters.old t).life) }
     ensures { (s : ScenarioView) → BecomesEvery s (λ k. without_task k task) clusters.old groups.old names.old clusters.new groups.new names.new }
 {
     let wait = thread_of(clusters, task).wait;
@@ -303,7 +303,7 @@ pub(crate) fn task_delete(
     id: Target,
 ) -> Answer
     requires lives { has_begun (thread_lent clusters.old caller).life ≡ true }
-    requires named { IsNamed names.old.tasks (begun_in (threads_of clusters.old) [] Task) }
+    requires named { IsNamed names.old.tasks (λ t. has_begun (thread_lent clusters.old t).life) }
     ensures { (s : ScenarioView) → DoesEvery s (λ k. task_delete k caller id) result clusters.old groups.old names.old clusters.new groups.new names.new }
 {
     match task_named(clusters, caller, id) {

@@ -1,10 +1,9 @@
 -- Objects by their class, index and name, and what the directives that make and name them share.
 use Rattle.std.specs.Prelude.{ℕ, List, [], ◌∷◌, Bool, true, false, Option, Some, None, ◌==◌, if◌then◌else◌}
 use Rattle.rk_model.specs.declared.ids.Class.{Class}
-use Rattle.rk_model.specs.declared.ids.Class.TheVariants.{Task, Barrier}
+use Rattle.rk_model.specs.declared.ids.Class.TheVariants.{Task, Barrier, Partition}
 use Rattle.rk_model.specs.declared.state.Life.{Life}
 use Rattle.rk_model.specs.declared.state.Life.TheVariants.{Absent, Dormant, Started, Ended}
-use Rattle.rk_model.specs.declared.state.Thread.{Thread}
 use Rattle.rk_model.specs.Lists.{nth}
 use Rattle.rk_model.specs.declared.status.Status.{Status}
 use Rattle.rk_model.specs.declared.status.Status.TheVariants.{InvalidName, TooMany}
@@ -12,7 +11,7 @@ use Rattle.rk_model.specs.Ids.{id_of, index_in}
 use Rattle.rk_model.specs.Names.{Names, names_of, with_names, taken, given_back, least_named}
 use Rattle.rk_model.specs.declared.scenario.Target.{Target}
 use Rattle.rk_model.specs.declared.scenario.Target.TheVariants.{Var, Own, Given}
-use Rattle.rk_model.specs.State.{Plain, BarrierState, no_thread, no_barrier}
+use Rattle.rk_model.specs.State.{Plain, Objects, objects_of, no_thread, no_barrier, no_partition}
 use Rattle.rk_model.specs.Directives.Outcomes.{Outcome, Refused, done, var_at}
 
 -- the names of the objects of a class
@@ -30,15 +29,16 @@ has_begun Dormant = true
 has_begun Started = true
 has_begun Ended = true
 
--- Whether the object of a class and an index has begun: it was created and not deleted. So far there are tasks and barriers.
-abbrev pub begun_in : List Thread → List BarrierState → Class → ℕ → Bool
-begun_in threads barriers Task index = has_begun (nth no_thread threads index).life
-begun_in threads barriers Barrier index = (nth no_barrier barriers index).live
-begun_in threads barriers class index = false
+-- Whether the object of a class and an index has begun: it was created and not deleted. So far there are tasks, barriers and partitions.
+abbrev pub begun_in : Objects → Class → ℕ → Bool
+begun_in objects Task index = has_begun (nth no_thread objects.threads index).life
+begun_in objects Barrier index = (nth no_barrier objects.barriers index).live
+begun_in objects Partition index = (nth no_partition objects.partitions index).live
+begun_in objects class index = false
 
 -- Whether an object of a class and an index lives: whether it has begun. Then, and only then, the index has a name, which is a law.
 abbrev pub is_live : Plain → Class → ℕ → Bool
-is_live k class index = begun_in k.threads k.barriers class index
+is_live k class index = begun_in (objects_of k) class index
 
 -- an index of a class, if there is one and its object lives
 abbrev pub live_one : Plain → Class → Option ℕ → Option ℕ

@@ -7,7 +7,7 @@ use Rattle.rk_model.specs.declared.numbers.Name.{Name as NameOf}
 use Rattle.rk_model.specs.declared.scenario.Target.{Target}
 use Rattle.rk_model.specs.declared.scenario.Wish.{Wish as WishOf}
 use Rattle.rk_model.specs.declared.scenario.Op.{Op}
-use Rattle.rk_model.specs.declared.scenario.Op.TheVariants.{Work, Goto, TaskCreate, TaskIdent, TaskStart, TaskSuspend, TaskResume, TaskSetPriority, TaskDelete, TaskWakeAfter, EventSend, EventReceive, BarrierCreate, BarrierIdent, BarrierWait, BarrierRelease, BarrierDelete}
+use Rattle.rk_model.specs.declared.scenario.Op.TheVariants.{Work, Goto, TaskCreate, TaskIdent, TaskStart, TaskSuspend, TaskResume, TaskSetPriority, TaskDelete, TaskWakeAfter, EventSend, EventReceive, BarrierCreate, BarrierIdent, BarrierWait, BarrierRelease, BarrierDelete, PartCreate, PartIdent, PartGet, PartReturn, PartDelete}
 
 -- What a word behind the first stands for.
 pub data Operand : Type 0 where
@@ -21,6 +21,8 @@ pub data Operand : Type 0 where
   Var : Operand
   -- an id
   Id : Operand
+  -- an address: a variable or a number
+  Address : Operand
   -- a body's name
   B : Operand
   -- the number of an earlier line of the body that isn't a goto
@@ -43,6 +45,7 @@ Value Name = NameOf
 Value Name0 = NameOf
 Value Var = ℕ
 Value Id = Target
+Value Address = Target
 Value B = ℕ
 Value Earlier = ℕ
 Value Mode = Bool
@@ -77,6 +80,11 @@ form_of (BarrierIdent name var) = Row (codes "barrier.ident") (Name ∷ Var ∷ 
 form_of (BarrierWait id ticks) = Row (codes "barrier.wait") (Id ∷ Any ∷ []) BarrierWait
 form_of (BarrierRelease id var) = Row (codes "barrier.release") (Id ∷ Var ∷ []) BarrierRelease
 form_of (BarrierDelete id) = Row (codes "barrier.delete") (Id ∷ []) BarrierDelete
+form_of (PartCreate name start length size var) = Row (codes "part.create") (Name0 ∷ Any ∷ Any ∷ Any ∷ Var ∷ []) PartCreate
+form_of (PartIdent name var) = Row (codes "part.ident") (Name ∷ Var ∷ []) PartIdent
+form_of (PartGet id var) = Row (codes "part.get") (Id ∷ Var ∷ []) PartGet
+form_of (PartReturn id address) = Row (codes "part.return") (Id ∷ Address ∷ []) PartReturn
+form_of (PartDelete id) = Row (codes "part.delete") (Id ∷ []) PartDelete
 
 -- the first word of a form
 abbrev pub word_in : Form → List ℕ

@@ -76,9 +76,9 @@ named None = Err NotYetBuilt
 named (Some n) = Ok (record { bits = n })
 
 -- a number where there is one
-abbrev pub known : Option ℕ → Result ℕ ScenarioWhy
-known None = Err NotYetBuilt
-known (Some n) = Ok n
+abbrev pub given_number : Option ℕ → Result ℕ ScenarioWhy
+given_number None = Err NotYetBuilt
+given_number (Some n) = Ok n
 
 -- the number from least to most that a word spells
 unfoldable pub number_operand : ℕ → ℕ → List ℕ → Result ℕ ScenarioWhy
@@ -94,15 +94,17 @@ name0_operand word = named (name0_of word)
 
 -- the number of the variable that a word spells
 unfoldable pub var_operand : List ℕ → Result ℕ ScenarioWhy
-var_operand word = known (var_of word)
+var_operand word = given_number (var_of word)
+
+-- an ID or an address that is a number
+abbrev pub given_operand : List ℕ → Result Target ScenarioWhy
+given_operand word = do
+  bits ← number_operand 0 4294967295 word
+  Ok (Given bits)
 
 -- an ID that is no variable: `self`, or a number
 unfoldable pub fixed_operand : List ℕ → Result Target ScenarioWhy
-fixed_operand word =
-    if bytes_eq word (codes "self") then Ok Own
-    else (do
-      bits ← number_operand 0 4294967295 word
-      Ok (Given bits))
+fixed_operand word = if bytes_eq word (codes "self") then Ok Own else given_operand word
 
 -- an ID where this says which variable it is, if it is one
 abbrev pub id_by : Option ℕ → Result Target ScenarioWhy → Result Target ScenarioWhy
@@ -113,9 +115,13 @@ id_by None other = other
 unfoldable pub id_operand : List ℕ → Result Target ScenarioWhy
 id_operand word = id_by (var_of word) (fixed_operand word)
 
+-- an ADDRESS: a variable, or a number
+unfoldable pub address_operand : List ℕ → Result Target ScenarioWhy
+address_operand word = id_by (var_of word) (given_operand word)
+
 -- the number of the body whose name the word is, of those that a line of a body may name
 unfoldable pub start_operand : Known → List ℕ → Result ℕ ScenarioWhy
-start_operand told word = known (body_known told.bodies told.own word)
+start_operand known word = given_number (body_known known.bodies known.own word)
 
 -- the number of one of these earlier lines that isn't a goto
 abbrev pub led : List Op → Option ℕ → Result ℕ ScenarioWhy
@@ -132,7 +138,7 @@ name_operand word = named (name_of word)
 
 -- the number of the body of these whose name the word is
 unfoldable pub body_operand : List Body → List ℕ → Result ℕ ScenarioWhy
-body_operand bodies word = known (body_of bodies word)
+body_operand bodies word = given_number (body_of bodies word)
 
 -- the second of two words, as true, or the first
 unfoldable pub either_operand : List ℕ → List ℕ → List ℕ → Result Bool ScenarioWhy
@@ -150,16 +156,17 @@ wish_operand word =
 
 -- the value of an operand that a word spells, in a line that may refer to what is known there
 unfoldable pub operand_of : Known → (o : Operand) → List ℕ → Result (Value o) ScenarioWhy
-operand_of told (Operand.Number least most) word = number_operand least most word
-operand_of told Operand.Name word = name_operand word
-operand_of told Operand.Name0 word = name0_operand word
-operand_of told Operand.Var word = var_operand word
-operand_of told Operand.Id word = id_operand word
-operand_of told Operand.B word = start_operand told word
-operand_of told Operand.Earlier word = goto_operand told.earlier word
-operand_of told Operand.Mode word = either_operand (codes "any") (codes "all") word
-operand_of told Operand.Kind word = either_operand (codes "manual") (codes "auto") word
-operand_of told Operand.Wish word = wish_operand word
+operand_of known (Operand.Number least most) word = number_operand least most word
+operand_of known Operand.Name word = name_operand word
+operand_of known Operand.Name0 word = name0_operand word
+operand_of known Operand.Var word = var_operand word
+operand_of known Operand.Id word = id_operand word
+operand_of known Operand.Address word = address_operand word
+operand_of known Operand.B word = start_operand known word
+operand_of known Operand.Earlier word = goto_operand known.earlier word
+operand_of known Operand.Mode word = either_operand (codes "any") (codes "all") word
+operand_of known Operand.Kind word = either_operand (codes "manual") (codes "auto") word
+operand_of known Operand.Wish word = wish_operand word
 
 -- ---- the lines of a body
 
@@ -172,26 +179,26 @@ fits (o ∷ operands) (word ∷ words) = fits operands words
 
 -- what the values make that the words spell, from left to right
 abbrev pub made_of : Known → (operands : List Operand) → Makes operands → List (List ℕ) → Result Op ScenarioWhy
-made_of told [] made [] = Ok made
-made_of told [] made (word ∷ words) = Err NotYetBuilt
-made_of told (o ∷ operands) made [] = Err NotYetBuilt
-made_of told (o ∷ operands) made (word ∷ words) = do
-  value ← operand_of told o word
-  made_of told operands (made value) words
+made_of known [] made [] = Ok made
+made_of known [] made (word ∷ words) = Err NotYetBuilt
+made_of known (o ∷ operands) made [] = Err NotYetBuilt
+made_of known (o ∷ operands) made (word ∷ words) = do
+  value ← operand_of known o word
+  made_of known operands (made value) words
 
 -- what a line of a form stands for, by the words behind its first
 unfoldable pub form_line : Known → Form → List (List ℕ) → Result Op ScenarioWhy
-form_line told (Row first operands made) words = if fits operands words then made_of told operands made words else Err NotYetBuilt
+form_line known (Row first operands made) words = if fits operands words then made_of known operands made words else Err NotYetBuilt
 
 -- what a line stands for of the form of this op, if there is one
 abbrev pub line_like : Known → Option Op → List (List ℕ) → Result Op ScenarioWhy
-line_like told None words = Err NotYetBuilt
-line_like told (Some op) words = form_line told (form_of op) words
+line_like known None words = Err NotYetBuilt
+line_like known (Some op) words = form_line known (form_of op) words
 
 -- what a line of a body stands for, which may refer to what is known there, by its words
 unfoldable pub op_line : Known → List (List ℕ) → Result Op ScenarioWhy
-op_line told [] = Err NotYetBuilt
-op_line told (first ∷ words) = line_like told (form_in first) words
+op_line known [] = Err NotYetBuilt
+op_line known (first ∷ words) = line_like known (form_in first) words
 
 -- ---- the lines of a scenario, each by the words behind its first: the draft after it
 
@@ -324,18 +331,18 @@ abbrev pub in_body : Draft → List (List ℕ) → Result Draft ScenarioWhy
 in_body d words = if is_end words then Ok (with_body d) else inner_line d words
 
 -- the draft after a line that isn't skipped, by the phase before it
-abbrev pub after_told : Phase → Draft → List (List ℕ) → Result Draft ScenarioWhy
-after_told Start d words = at_start d words
-after_told Headed d words = at_headed d words
-after_told Clustered d words = at_clustered d words
-after_told Timed d words = at_timed d words
-after_told Limited d words = at_limited d words
-after_told InBody d words = in_body d words
-after_told InInits d words = at_inits d words
+abbrev pub after_statement : Phase → Draft → List (List ℕ) → Result Draft ScenarioWhy
+after_statement Start d words = at_start d words
+after_statement Headed d words = at_headed d words
+after_statement Clustered d words = at_clustered d words
+after_statement Timed d words = at_timed d words
+after_statement Limited d words = at_limited d words
+after_statement InBody d words = in_body d words
+after_statement InInits d words = at_inits d words
 
 -- the draft after a line of these words, or what is wrong with it
 unfoldable pub after_words : Draft → List (List ℕ) → Result Draft ScenarioWhy
-after_words d words = if is_skipped words then Ok d else after_told d.phase d words
+after_words d words = if is_skipped words then Ok d else after_statement d.phase d words
 
 -- the draft after a line
 unfoldable pub after_line : Draft → List ℕ → Result Draft ScenarioWhy

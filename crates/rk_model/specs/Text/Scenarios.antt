@@ -41,6 +41,12 @@ abbrev pub IsWish : List ℕ → Wish → Type 0
 IsWish word NoWait = word ≡ codes "nowait"
 IsWish word (Limit ticks) = IsNumber word ticks 0 4294967295
 
+-- The word stands for an address: a variable, or a number.
+abbrev pub IsAddress : List ℕ → Target → Type 0
+IsAddress word (Var var) = var_of word ≡ Some var
+IsAddress word Own = ⊥
+IsAddress word (Given bits) = IsNumber word bits 0 4294967295
+
 -- whether a body has the name
 abbrev pub is_named : List ℕ → Body → Bool
 is_named name body = bytes_eq body.name name
@@ -96,6 +102,7 @@ IsSpelled known Operand.Name word name = name_of word ≡ Some name.bits
 IsSpelled known Operand.Name0 word name = name0_of word ≡ Some name.bits
 IsSpelled known Operand.Var word var = var_of word ≡ Some var
 IsSpelled known Operand.Id word id = IsId word id
+IsSpelled known Operand.Address word address = IsAddress word address
 IsSpelled known Operand.B word body = body_known known.bodies known.own word ≡ Some body
 IsSpelled known Operand.Earlier word n = IsEarlier known.earlier word n
 IsSpelled known Operand.Mode word all = IsEither word (codes "any") (codes "all") all
@@ -121,22 +128,22 @@ IsOp known words op = IsOfForm known (form_of op) words op
 abbrev pub AreOps : Known → List (List (List ℕ)) → List Op → Type 0
 AreOps known [] [] = Unit {0}
 AreOps known [] (op ∷ ops) = ⊥
-AreOps known (words ∷ told) [] = ⊥
-AreOps known (words ∷ told) (op ∷ ops) = IsOp known words op × AreOps (with_earlier known op) told ops
+AreOps known (words ∷ statements) [] = ⊥
+AreOps known (words ∷ statements) (op ∷ ops) = IsOp known words op × AreOps (with_earlier known op) statements ops
 
 -- The lines are those of a body behind others, where there are so many clusters: `body B`, at most 1,000 lines, and `end`.
-pub record IsBody (clusters : ℕ) (bodies : List Body) (told : List (List (List ℕ))) (body : Body) : Type 0 where
+pub record IsBody (clusters : ℕ) (bodies : List Body) (statements : List (List (List ℕ))) (body : Body) : Type 0 where
   pub inner : List (List (List ℕ))
-  pub told_is : told ≡ (codes "body" ∷ body.name ∷ []) ∷ inner ++ (codes "end" ∷ []) ∷ []
+  pub statements_are : statements ≡ (codes "body" ∷ body.name ∷ []) ∷ inner ++ (codes "end" ∷ []) ∷ []
   pub name : is_body_name body.name ≡ true
   pub few : length body.lines ≤ MOST_LINES
   pub ops : AreOps (record { clusters = clusters; bodies = bodies; own = body.name; earlier = [] }) inner body.lines
 
 -- The lines are those of the bodies behind others, one after another, where there are so many clusters.
 abbrev pub AreBodies : ℕ → List Body → List (List (List ℕ)) → List Body → Type 0
-AreBodies clusters front told [] = told ≡ []
-AreBodies clusters front told (body ∷ bodies) =
-    (first rest : List (List (List ℕ))) × (told ≡ first ++ rest) × IsBody clusters front first body × AreBodies clusters (front ++ body ∷ []) rest bodies
+AreBodies clusters front statements [] = statements ≡ []
+AreBodies clusters front statements (body ∷ bodies) =
+    (first rest : List (List (List ℕ))) × (statements ≡ first ++ rest) × IsBody clusters front first body × AreBodies clusters (front ++ body ∷ []) rest bodies
 
 -- No two bodies have one name.
 abbrev pub AreDistinct : List Body → Type 0
@@ -160,8 +167,8 @@ pub record IsInit (s : Scenario) (words : List (List ℕ)) (init : Init) : Type 
 abbrev pub AreInits : Scenario → List (List (List ℕ)) → List Init → Type 0
 AreInits s [] [] = Unit {0}
 AreInits s [] (init ∷ inits) = ⊥
-AreInits s (words ∷ told) [] = ⊥
-AreInits s (words ∷ told) (init ∷ inits) = IsInit s words init × AreInits s told inits
+AreInits s (words ∷ statements) [] = ⊥
+AreInits s (words ∷ statements) (init ∷ inits) = IsInit s words init × AreInits s statements inits
 
 -- The words are those of a line `cluster M`.
 abbrev pub IsCluster : List (List ℕ) → ℕ → Type 0
@@ -171,8 +178,8 @@ IsCluster words m = (count : List ℕ) × (words ≡ codes "cluster" ∷ count �
 abbrev pub AreClusters : List (List (List ℕ)) → List ℕ → Type 0
 AreClusters [] [] = Unit {0}
 AreClusters [] (m ∷ ms) = ⊥
-AreClusters (words ∷ told) [] = ⊥
-AreClusters (words ∷ told) (m ∷ ms) = IsCluster words m × AreClusters told ms
+AreClusters (words ∷ statements) [] = ⊥
+AreClusters (words ∷ statements) (m ∷ ms) = IsCluster words m × AreClusters statements ms
 
 -- the processors of all clusters
 abbrev pub cpus_in : List ℕ → ℕ
@@ -189,16 +196,16 @@ pub record IsTicks (words : List (List ℕ)) (horizon : ℕ) : Type 0 where
 abbrev pub IsLimit : List (List (List ℕ)) → ℕ → Type 0
 IsLimit [] limit = limit ≡ USUAL_ENTRIES
 IsLimit (words ∷ []) limit = (number : List ℕ) × (words ≡ codes "limit" ∷ number ∷ []) × IsNumber number limit 1 MOST_ENTRIES
-IsLimit (words ∷ more ∷ told) limit = ⊥
+IsLimit (words ∷ more ∷ statements) limit = ⊥
 
 -- The lines, in this order: `rtems 1`; one to four clusters with at most 8 processors in all; `ticks N`; at most one `limit N`; at most 32 bodies with different names; at most 64 init lines.
-pub record Tells (told : List (List (List ℕ))) (s : Scenario) : Type 0 where
+pub record Describes (statements : List (List (List ℕ))) (s : Scenario) : Type 0 where
   pub clusters : List (List (List ℕ))
   pub ticks : List (List ℕ)
   pub limits : List (List (List ℕ))
   pub bodies : List (List (List ℕ))
   pub inits : List (List (List ℕ))
-  pub told_is : told ≡ (codes "rtems" ∷ codes "1" ∷ []) ∷ clusters ++ ticks ∷ limits ++ bodies ++ inits
+  pub statements_are : statements ≡ (codes "rtems" ∷ codes "1" ∷ []) ∷ clusters ++ ticks ∷ limits ++ bodies ++ inits
   pub clusters_are : AreClusters clusters s.clusters
   pub some_cluster : 0 < length s.clusters
   pub few_clusters : length s.clusters ≤ MOST_CLUSTERS
@@ -215,7 +222,7 @@ pub record Tells (told : List (List (List ℕ))) (s : Scenario) : Type 0 where
 pub record ScenarioText (bytes : List ℕ) (s : Scenario) : Type 0 where
   pub size : length bytes ≤ MOST_BYTES
   pub allowed : AllByRecursion (λ line. is_plain line ≡ true) (lines_of bytes)
-  pub lines : Tells (told_lines bytes) s
+  pub lines : Describes (told_lines bytes) s
 
 -- Some bytes are a text of the scenario.
 pub record IsScenario (s : Scenario) : Type 0 where

@@ -9,7 +9,7 @@ pub loop-cluster-init : goal.loop-cluster-init
 loop-cluster-init c =
     let all = c.args.all.now in
     let count : length all.scenario.clusters - 0 ≡ length (plain_of all).clusters = omega (arith, count_clusters all) in
-    record { ready = c.requires; scenario = refl; told = ap (fire_from (plain_of all) 0) count }
+    record { ready = c.requires; scenario = refl; so_far = ap (fire_from (plain_of all) 0) count }
 
 pub overflow_cast-cluster : goal.overflow_cast-cluster
 overflow_cast-cluster c = omega (arith, few_clusters c.args.all.now c.requires)
@@ -22,5 +22,5 @@ loop-cluster-preserved c =
     record {
       ready = c.fire_cluster.ensures.ready;
       scenario = c.fire_cluster.ensures.scenario ∙ c.loop-cluster.invariant.scenario;
-      told = ap (λ (k : Plain). fire_from k (p + 1) (n - (p + 1))) c.fire_cluster.ensures.fired ∙ ap (fire_from (plain_of c.loop-cluster.all) p) (sym one_more) ∙ c.loop-cluster.invariant.told;
+      so_far = ap (λ (k : Plain). fire_from k (p + 1) (n - (p + 1))) c.fire_cluster.ensures.fired ∙ ap (fire_from (plain_of c.loop-cluster.all) p) (sym one_more) ∙ c.loop-cluster.invariant.so_far;
     }

@@ -8,5 +8,5 @@ abbrev pub invariant-loop-cluster : goal.invariant-loop-cluster
 invariant-loop-cluster l = record {
   ready : IsReady l.all;
   scenario : l.all.scenario ≡ l.fn.all.scenario;
-  told : fire_from (plain_of l.all) l.cluster (length l.fn.all.scenario.clusters - l.cluster) ≡ fire_all (plain_of l.fn.all);
+  so_far : fire_from (plain_of l.all) l.cluster (length l.fn.all.scenario.clusters - l.cluster) ≡ fire_all (plain_of l.fn.all);
 }

@@ -18,8 +18,8 @@ firing-preserved c =
     record {
       ready = c.fire_first.ensures.ready;
       scenario = c.fire_first.ensures.scenario ∙ c.firing.invariant.scenario;
-      told = (fewer_due (plain_of c.firing.all) (plain_of c.fire_first.new.all) c.args.cluster c.firing.invariant.ready.sound within (rw c.firing-test.true at c.fire_first.ensures.fires)).2 ∙ c.firing.invariant.told;
+      so_far = (fewer_due (plain_of c.firing.all) (plain_of c.fire_first.new.all) c.args.cluster c.firing.invariant.ready.sound within (rw c.firing-test.true at c.fire_first.ensures.fires)).2 ∙ c.firing.invariant.so_far;
     }
 
 pub returns-clause-fired : goal.returns-clause-fired
-returns-clause-fired c = none_due (plain_of c.firing.all) (plain_of c.fire_first.new.all) c.args.cluster (rw c.firing-test.false at c.fire_first.ensures.fires) ∙ c.firing.invariant.told
+returns-clause-fired c = none_due (plain_of c.firing.all) (plain_of c.fire_first.new.all) c.args.cluster (rw c.firing-test.false at c.fire_first.ensures.fires) ∙ c.firing.invariant.so_far

@@ -9,7 +9,7 @@ abbrev pub invariant-firing : goal.invariant-firing
 invariant-firing l = record {
   ready : IsReady l.all;
   scenario : l.all.scenario ≡ l.fn.all.scenario;
-  told : fire_each (plain_of l.all) l.cluster (due_now (plain_of l.all) l.cluster) ≡ fire_cluster (plain_of l.fn.all) l.cluster;
+  so_far : fire_each (plain_of l.all) l.cluster (due_now (plain_of l.all) l.cluster) ≡ fire_cluster (plain_of l.fn.all) l.cluster;
 }
 
 abbrev pub decreases-firing : goal.decreases-firing

@@ -1,8 +1,8 @@
 use Rattle.std.proofs.Common.{refl}
-use Rattle.rk_model.specs.declared.ids.Class.TheVariants.{Task, Barrier}
+use Rattle.rk_model.specs.declared.ids.Class.TheVariants.{Task, Barrier, Partition}
 use Rattle.rk_model.specs.Directives.Waits.{OfBarrier}
 use Rattle.rk_parts.specs.Joined.{plain_of}
-use Rattle.rk_parts.proofs.WholeLemmas.{all_groups_lent}
+use Rattle.rk_parts.proofs.WholeLemmas.{all_groups_lent, all_partitions_lent}
 use Rattle.rk_kernel.proofs.DirectiveLemmas.LentLemmas.{all_both, all_every, all_grouped, all_wide, all_tells, caller_unarmed, caller_lent}
 use Rattle.rk_kernel.proofs.directives.perform.Goals as goal
 
@@ -26,6 +26,15 @@ barrier_delete-requires-clause-named c = c.requires.acts.sound.named.class Barri
 
 pub barrier_delete-requires-clause-queue : goal.barrier_delete-requires-clause-queue
 barrier_delete-requires-clause-queue c = λ i _ t. c.requires.acts.sound.tied.queued t refl (OfBarrier i)
+
+pub partition_create-requires-clause-named : goal.partition_create-requires-clause-named
+partition_create-requires-clause-named c = c.requires.acts.sound.named.class Partition
+
+pub partition_create-requires-clause-lent : goal.partition_create-requires-clause-lent
+partition_create-requires-clause-lent c = λ i low high. all_partitions_lent c.args.all.now i c.requires.whole low high
+
+pub partition_delete-requires : goal.partition_delete-requires
+partition_delete-requires c = record { named = c.requires.acts.sound.named.class Partition }
 
 pub perform_narrow-requires-clause-unarmed : goal.perform_narrow-requires-clause-unarmed
 perform_narrow-requires-clause-unarmed c = caller_unarmed c.args.all.now c.args.caller c.requires.whole c.requires.acts
@@ -53,6 +62,15 @@ returns-in-BarrierIdent c = rw c.in-BarrierIdent.is (all_tells c.args.all.now _ 
 
 pub returns-in-BarrierDelete : goal.returns-in-BarrierDelete
 returns-in-BarrierDelete c = rw c.in-BarrierDelete.is (all_every c.args.all.now _ _ _ _ _ c.requires.whole (c.barrier_delete.ensures c.args.all.now.scenario))
+
+pub returns-in-PartCreate : goal.returns-in-PartCreate
+returns-in-PartCreate c = rw c.in-PartCreate.is (all_grouped c.args.all.now _ _ _ _ c.requires.whole (c.partition_create.ensures c.args.all.now.scenario))
+
+pub returns-in-PartIdent : goal.returns-in-PartIdent
+returns-in-PartIdent c = rw c.in-PartIdent.is (all_tells c.args.all.now _ _ c.requires.whole (c.partition_ident.ensures (plain_of c.args.all.now)))
+
+pub returns-in-PartDelete : goal.returns-in-PartDelete
+returns-in-PartDelete c = rw c.in-PartDelete.is (all_every c.args.all.now _ _ _ _ _ c.requires.whole (c.partition_delete.ensures c.args.all.now.scenario))
 
 pub returns-in_default : goal.returns-in_default
 returns-in_default c = all_both c.args.all.now _ _ _ _ c.requires.whole c.perform_narrow.ensures

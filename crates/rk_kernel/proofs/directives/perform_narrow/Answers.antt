@@ -33,3 +33,9 @@ returns-in-BarrierWait c = rw c.in-BarrierWait.is (c.barrier_wait.ensures c.args
 
 pub returns-in-BarrierRelease : goal.returns-in-BarrierRelease
 returns-in-BarrierRelease c = rw c.in-BarrierRelease.is (c.barrier_release.ensures c.args.scenario.now)
+
+pub returns-in-PartGet : goal.returns-in-PartGet
+returns-in-PartGet c = rw c.in-PartGet.is (c.partition_get.ensures c.args.scenario.now)
+
+pub returns-in-PartReturn : goal.returns-in-PartReturn
+returns-in-PartReturn c = rw c.in-PartReturn.is (c.partition_return.ensures c.args.scenario.now)

@@ -16,12 +16,12 @@ loop-at-preserved c =
           rw w.clusters-is
           (record {
             size = length-set parts at w.settle_part.new.part ∙ c.loop-at.invariant.size;
-            told = one_settled last parts at w.index-clusters-at-then-not-is_settled.result w.settle_part.new.part _ within w.index-clusters-at-then-not-is_settled.is (w.settle_part.ensures ∙ ap (settled_part last) (sym w.index-clusters-at-then-not-is_settled.is)) c.loop-at.invariant.told;
+            so_far = one_settled last parts at w.index-clusters-at-then-not-is_settled.result w.settle_part.new.part _ within w.index-clusters-at-then-not-is_settled.is (w.settle_part.ensures ∙ ap (settled_part last) (sym w.index-clusters-at-then-not-is_settled.is)) c.loop-at.invariant.so_far;
           })
       | else-not-is_settled w ↦
           rw w.clusters-is
           (record {
             size = c.loop-at.invariant.size;
-            told = one_still last parts at c.index-clusters-at.result _ within c.index-clusters-at.is (subst (λ (p : ClusterPart). bare p ≡ settled_part last p) (sym c.index-clusters-at.is) (w.if-not-is_settled.ensures refl)) c.loop-at.invariant.told;
+            so_far = one_still last parts at c.index-clusters-at.result _ within c.index-clusters-at.is (subst (λ (p : ClusterPart). bare p ≡ settled_part last p) (sym c.index-clusters-at.is) (w.if-not-is_settled.ensures refl)) c.loop-at.invariant.so_far;
           })
     ]

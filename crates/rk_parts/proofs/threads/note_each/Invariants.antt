@@ -5,5 +5,5 @@ use Rattle.rk_parts.proofs.threads.note_each.Given as goal
 abbrev pub invariant-loop-thread : goal.invariant-loop-thread
 invariant-loop-thread l = record {
   size : length l.stood ≡ 64;
-  told : StandAsNoted (drop l.thread-index l.marked) l.stood l.places;
+  so_far : StandAsNoted (drop l.thread-index l.marked) l.stood l.places;
 }

@@ -10,5 +10,5 @@ loop-at-preserved c =
     let within : at < length parts = omega arith in
     record {
       size = length-set parts at _ ∙ c.loop-at.invariant.size;
-      told = one_mapped (at_tick c.args.tick) parts at c.index-clusters-at.result _ _ within c.index-clusters-at.is (ap (at_tick c.args.tick) (sym c.index-clusters-at.is)) c.loop-at.invariant.told;
+      so_far = one_mapped (at_tick c.args.tick) parts at c.index-clusters-at.result _ _ within c.index-clusters-at.is (ap (at_tick c.args.tick) (sym c.index-clusters-at.is)) c.loop-at.invariant.so_far;
     }

@@ -10,5 +10,5 @@ loop-at-preserved c =
     let within : at < length groups = omega arith in
     record {
       size = length-set groups at _ ∙ c.loop-at.invariant.size;
-      told = one_mapped (group_at_tick c.args.tick) groups at c.index-groups-at.result _ _ within c.index-groups-at.is (ap (group_at_tick c.args.tick) (sym c.index-groups-at.is)) c.loop-at.invariant.told;
+      so_far = one_mapped (group_at_tick c.args.tick) groups at c.index-groups-at.result _ _ within c.index-groups-at.is (ap (group_at_tick c.args.tick) (sym c.index-groups-at.is)) c.loop-at.invariant.so_far;
     }

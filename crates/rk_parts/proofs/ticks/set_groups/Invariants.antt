@@ -5,5 +5,5 @@ use Rattle.rk_parts.proofs.ticks.set_groups.Given as goal
 abbrev pub invariant-loop-at : goal.invariant-loop-at
 invariant-loop-at l = record {
   size : length l.groups ≡ length l.fn.groups;
-  told : take l.at l.groups ++ map (group_at_tick l.tick) (drop l.at l.groups) ≡ map (group_at_tick l.tick) l.fn.groups;
+  so_far : take l.at l.groups ++ map (group_at_tick l.tick) (drop l.at l.groups) ≡ map (group_at_tick l.tick) l.fn.groups;
 }

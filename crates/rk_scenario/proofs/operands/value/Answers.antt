@@ -11,5 +11,5 @@ loop-byte-preserved c =
     let known : digit_below c.args.base (digit_value (get_or s i 0)) ≡ Some c.in-Some.digit = cc in
     record {
       small = omega arith;
-      told = rw c.min-value.ensures (capped_more c.args.base c.loop-byte.value c.in-Some.digit (get_or s i 0) (drop i s) (drop (i + 1) s) c.requires.low more known ∙ c.loop-byte.invariant.told);
+      value_left = rw c.min-value.ensures (capped_more c.args.base c.loop-byte.value c.in-Some.digit (get_or s i 0) (drop i s) (drop (i + 1) s) c.requires.low more known ∙ c.loop-byte.invariant.value_left);
     }

@@ -6,5 +6,5 @@ use Rattle.rk_scenario.proofs.operands.value.Given as goal
 abbrev pub invariant-loop-byte : goal.invariant-loop-byte
 invariant-loop-byte l = record {
   small : l.value ≤ 4294967296;
-  told : option_map (min 4294967296) (value_from l.base l.value (drop l.byte-index l.digits)) ≡ option_map (min 4294967296) (value_from l.base 0 l.digits);
+  value_left : option_map (min 4294967296) (value_from l.base l.value (drop l.byte-index l.digits)) ≡ option_map (min 4294967296) (value_from l.base 0 l.digits);
 }

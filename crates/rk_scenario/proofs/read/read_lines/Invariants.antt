@@ -8,7 +8,7 @@ abbrev pub invariant-loop-line : goal.invariant-loop-line
 invariant-loop-line l = record {
   small : IsSmall l.draft;
   few : l.number + length l.rest ≤ 1048577;
-  told : verdict_from (draft_of l.draft) l.number (lines_of l.rest) ≡ verdict_from start 1 (lines_of l.fn.bytes);
+  verdict : verdict_from (draft_of l.draft) l.number (lines_of l.rest) ≡ verdict_from start 1 (lines_of l.fn.bytes);
 }
 
 abbrev pub decreases-loop-line : goal.decreases-loop-line

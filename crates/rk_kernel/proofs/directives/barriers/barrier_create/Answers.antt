@@ -1,15 +1,13 @@
-use Rattle.std.proofs.Common.{[], None, ap, sym, ◌∙◌}
+use Rattle.std.proofs.Common.{None, ap, sym, ◌∙◌}
 use Rattle.rk_model.specs.declared.entry.Answer.TheVariants.{Done}
-use Rattle.rk_model.specs.declared.ids.Class.TheVariants.{Barrier}
 use Rattle.rk_model.specs.declared.status.Status.TheVariants.{Successful}
-use Rattle.rk_model.specs.Directives.Objects.{begun_in}
-use Rattle.rk_parts.specs.Joined.{barriers_of}
+use Rattle.rk_parts.specs.Joined.{barrier_lent}
 use Rattle.rk_kernel.proofs.NamesAgreeLemmas.{first_absent}
 use Rattle.rk_kernel.proofs.DirectiveLemmas.LentBarriersLemmas.{accepts, creates, creates_none}
 use Rattle.rk_kernel.proofs.directives.barriers.barrier_create.Goals as goal
 
 pub create-requires-in-Ok-clause-vacant : goal.create-requires-in-Ok-clause-vacant
-create-requires-in-Ok-clause-vacant c = first_absent c.args.names.now.barriers (begun_in [] (barriers_of c.args.groups.now) Barrier) c.in-Ok.index c.requires.named c.in-Ok.ensures.first
+create-requires-in-Ok-clause-vacant c = first_absent c.args.names.now.barriers (λ i. (barrier_lent c.args.groups.now i).live) c.in-Ok.index c.requires.named c.in-Ok.ensures.first
 
 pub create-requires-in-Ok-clause-some : goal.create-requires-in-Ok-clause-some
 create-requires-in-Ok-clause-some c = accepts c.args.automatic c.args.most (sym c.most_refusal.ensures ∙ c.in-Ok.ensures.accepted)

@@ -1,12 +1,12 @@
-use Rattle.std.proofs.Common.{◌≡◌, ℕ, [], refl, ap, ◌∙◌, None}
-use Rattle.rk_model.specs.Directives.Objects.{begun_in}
+use Rattle.std.proofs.Common.{◌≡◌, ℕ, refl, ap, ◌∙◌, None}
+use Rattle.rk_model.specs.declared.ids.Class.TheVariants.{Task}
+use Rattle.rk_model.specs.Directives.Objects.{has_begun}
 use Rattle.rk_model.specs.declared.entry.Answer.TheVariants.{Done}
 use Rattle.rk_model.specs.declared.status.Status.TheVariants.{Successful}
-use Rattle.rk_model.specs.declared.ids.Class.TheVariants.{Task}
 use Rattle.rk_model.specs.State.{Plain, thread_at, put_thread}
 use Rattle.rk_model.specs.Directives.Tasks.{dormant_in}
 use Rattle.rk_model.specs.declared.state.Thread.{Thread}
-use Rattle.rk_parts.specs.Joined.{threads_of, thread_lent}
+use Rattle.rk_parts.specs.Joined.{thread_lent}
 use Rattle.rk_parts.specs.Lent.{Replaces}
 use Rattle.rk_kernel.proofs.NamesAgreeLemmas.{first_absent}
 use Rattle.rk_kernel.proofs.DirectiveLemmas.ObjectsLemmas.{created, refused}
@@ -14,7 +14,7 @@ use Rattle.rk_kernel.proofs.DirectiveLemmas.LentLemmas.{home_known}
 use Rattle.rk_kernel.proofs.directives.tasks.task_create.Goals as goal
 
 pub make-requires-clause-absent : goal.make-requires-clause-absent
-make-requires-clause-absent c = rw c.new-in-Ok.ensures (first_absent c.args.names.now.tasks (begun_in (threads_of c.args.clusters.now) [] Task) c.in-Ok.index c.requires.named c.in-Ok.ensures.first)
+make-requires-clause-absent c = rw c.new-in-Ok.ensures (first_absent c.args.names.now.tasks (λ t. has_begun (thread_lent c.args.clusters.now t).life) c.in-Ok.index c.requires.named c.in-Ok.ensures.first)
 
 pub returns-in-Err : goal.returns-in-Err
 returns-in-Err c = λ s.

@@ -1,16 +1,16 @@
-use Rattle.std.proofs.Common.{[], ap, ◌∙◌}
+use Rattle.std.proofs.Common.{ap, ◌∙◌}
 use Rattle.rk_model.specs.declared.ids.Class.TheVariants.{Task}
 use Rattle.rk_model.specs.declared.state.Thread.{Thread}
 use Rattle.rk_model.specs.Names.{lives}
-use Rattle.rk_model.specs.Directives.Objects.{begun_in, without_object}
-use Rattle.rk_parts.specs.Joined.{threads_of}
+use Rattle.rk_model.specs.Directives.Objects.{has_begun, without_object}
+use Rattle.rk_parts.specs.Joined.{thread_lent}
 use Rattle.rk_kernel.specs.Does.{with_table}
 use Rattle.rk_kernel.proofs.NamesAgreeLemmas.{lives_named}
 use Rattle.rk_kernel.proofs.DirectiveLemmas.LentLemmas.{deleted}
 use Rattle.rk_kernel.proofs.directives.tasks.without_task.Goals as goal
 
 pub remove-requires-2 : goal.remove-requires-2
-remove-requires-2 c = ap (lives c.args.names.now.tasks) (c.from.ensures ∙ c.at.ensures.value) ∙ lives_named c.args.names.now.tasks (begun_in (threads_of c.args.clusters.now) [] Task) c.args.task c.requires.named ∙ c.requires.lives
+remove-requires-2 c = ap (lives c.args.names.now.tasks) (c.from.ensures ∙ c.at.ensures.value) ∙ lives_named c.args.names.now.tasks (λ t. has_begun (thread_lent c.args.clusters.now t).life) c.args.task c.requires.named ∙ c.requires.lives
 
 pub returns : goal.returns
 returns c = λ s.
