@@ -1,0 +1,2 @@
+pub mod PeriodPlaceLemmas
+pub mod PeriodStoreLemmas
