@@ -15,8 +15,8 @@ use Rattle.rk_parts.specs.declared.parts.ClusterPart.{ClusterPart}
 use Rattle.rk_parts.specs.declared.parts.AllParts.{AllParts}
 use Rattle.rk_parts.specs.declared.parts.GroupPart.{GroupPart}
 use Rattle.rk_parts.specs.Threads.{own_standing}
-use Rattle.rk_partition.specs.Partitions.{none_live as no_partitions, stored_at as partition_in}
-use Rattle.rk_signal.specs.Barriers.{none_live, no_stored, group_of, stored_at}
+use Rattle.rk_places.specs.Stores.{none_live, group_of, stored_at}
+use Rattle.rk_signal.specs.Barriers.{no_stored}
 use Rattle.rk_parts.specs.Joined.{listed, cluster_of, placed_in, lives_in, held, numbered, present_of, threads_of, barrier_of, barrier_held, barriers_of, partition_held, partitions_of, clusters_of, clusters_by, plain_of}
 use Rattle.rk_parts.specs.Lent.{AreLaid, layouts, stored}
 use Rattle.rk_parts.specs.Noted.{no_part, part_at, standings_in, key_of, IsKeyed, AreNoted, bare}
@@ -161,7 +161,7 @@ listed_no none f a (suc n) is = ap (λ x. x ∷ listed f (a + 1) n) (is a) ∙ a
 -- no barrier is held by vacant groups,
 no_barrier_held : (i : ℕ) → barrier_held vacant_groups i ≡ no_barrier
 no_barrier_held i = or_none no_barrier (0 == group_of i) (placed 0) (or_none no_barrier (1 == group_of i) (placed 1) (or_none no_barrier (2 == group_of i) (placed 2) (or_none no_barrier (3 == group_of i) (placed 3) refl))) where
-  placed : (number : ℕ) → barrier_of (stored_at (none_live number) i) ≡ no_barrier
+  placed : (number : ℕ) → barrier_of (stored_at no_stored (none_live no_stored number) i) ≡ no_barrier
   placed number = ap barrier_of (nth_replicate no_stored 64 i)
 
 barriers_vacant : (groups : List GroupPart) → groups ≡ vacant_groups → barriers_of groups ≡ replicate 64 no_barrier
@@ -171,7 +171,7 @@ barriers_vacant groups made = ap (λ (gs : List GroupPart). listed (barrier_held
 -- and no partition
 no_partition_held : (i : ℕ) → partition_held vacant_groups i ≡ no_partition
 no_partition_held i = or_none no_partition (0 == group_of i) (placed 0) (or_none no_partition (1 == group_of i) (placed 1) (or_none no_partition (2 == group_of i) (placed 2) (or_none no_partition (3 == group_of i) (placed 3) refl))) where
-  placed : (number : ℕ) → partition_in (no_partitions number) i ≡ no_partition
+  placed : (number : ℕ) → stored_at no_partition (none_live no_partition number) i ≡ no_partition
   placed number = nth_replicate no_partition 64 i
 
 partitions_vacant : (groups : List GroupPart) → groups ≡ vacant_groups → partitions_of groups ≡ replicate 64 no_partition

@@ -1,12 +1,13 @@
 -- Parts as they are made at opening.
 use Rattle.std.specs.Prelude.{ℕ, List, [], ◌∷◌, take}
 use Rattle.std.specs.List.{slice_index_or}
+use Rattle.rk_model.specs.State.{no_partition}
 use Rattle.rk_model.specs.Text.Scenarios.{cpus_in}
 use Rattle.rk_cluster.specs.Clusters.{empty_cluster}
 use Rattle.rk_parts.specs.declared.parts.ClusterPart.{ClusterPart}
 use Rattle.rk_parts.specs.declared.parts.GroupPart.{GroupPart}
-use Rattle.rk_signal.specs.Barriers.{none_live}
-use Rattle.rk_partition.specs.Partitions.{none_live as no_partitions}
+use Rattle.rk_places.specs.Stores.{none_live}
+use Rattle.rk_signal.specs.Barriers.{no_stored}
 use Rattle.rk_parts.specs.Threads.{no_threads}
 
 -- the part of a cluster without threads, of so many processors from a first on
@@ -23,7 +24,7 @@ vacant_parts counts = vacant_in counts 0 ∷ vacant_in counts 1 ∷ vacant_in co
 
 -- the part of a group in which no object lives
 abbrev pub vacant_group : ℕ → GroupPart
-vacant_group number = record { present = 0; barriers = none_live number; partitions = no_partitions number; wakes = [] }
+vacant_group number = record { present = 0; barriers = none_live no_stored number; partitions = none_live no_partition number; wakes = [] }
 
 -- the parts of all groups, in which no object lives
 abbrev pub vacant_groups : List GroupPart

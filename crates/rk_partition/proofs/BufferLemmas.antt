@@ -11,7 +11,7 @@ use Rattle.rk_partition.specs.declared.partition.Partition.{Partition}
 use Rattle.rk_model.specs.State.{PartitionState, no_partition}
 use Rattle.rk_model.specs.Directives.Partitions.{addresses, buffers, has_invalid_address, has_invalid_size, is_in_use, is_out, memory_refusal, with_free}
 use Rattle.rk_partition.specs.Partitions.{IsStored, IsTaken, HasOut}
-use Rattle.rk_partition.specs.PartitionPlaces.{stored_by}
+use Rattle.rk_partition.specs.PartitionSlots.{stored_by}
 
 -- What is not refused is in order:
 

@@ -1,3 +1,1 @@
 pub mod BufferLemmas
-pub mod PartitionPlaceLemmas
-pub mod PartitionStoreLemmas

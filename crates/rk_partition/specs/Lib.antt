@@ -1,2 +1,2 @@
-pub mod PartitionPlaces
+pub mod PartitionSlots
 pub mod Partitions

@@ -1,11 +1,9 @@
 -- What the directives of the partition manager do to the partitions of a group.
-use Rattle.std.specs.Prelude.{ℕ, ◌≡◌, ◌-◌, ◌%◌, ◌≤◌, ◌<◌, ◌≢◌, true, false, List, [], ◌∷◌, length, Option, Some, None, if◌then◌else◌}
-use Rattle.std.specs.List.{repeat}
+use Rattle.std.specs.Prelude.{ℕ, ◌≡◌, ◌≤◌, true, false, List, [], ◌∷◌, length, Option, Some, None, if◌then◌else◌}
 use Rattle.rk_model.specs.declared.entry.Reply.{Reply}
-use Rattle.rk_model.specs.declared.limits.TheConstants.{MOST_OBJECTS}
 use Rattle.rk_model.specs.declared.status.Status.{Status}
 use Rattle.rk_model.specs.declared.status.Status.TheVariants.{Successful, InvalidAddress, ResourceInUse, Unsatisfied}
-use Rattle.rk_model.specs.Lists.{has, times, nth, with_nth}
+use Rattle.rk_model.specs.Lists.{has, times}
 use Rattle.rk_model.specs.State.{PartitionState, no_partition}
 use Rattle.rk_model.specs.Directives.Partitions.{buffers, is_out, is_in_use, memory_refusal, with_free}
 
@@ -23,39 +21,6 @@ pub record IsStored (stored : PartitionState) : Type 0 where
   pub vacant : stored.live ≡ false → stored ≡ no_partition
   pub made : stored.live ≡ true → memory_refusal stored.start stored.length stored.size ≡ None
   pub once : (address : ℕ) → times address stored.free ≤ times address (buffers stored)
-
--- The partitions of a group: its number from 0 to 3, and a place for each index from 1 to 64.
-pub record Store : Type 0 where
-  pub group : ℕ
-  pub places : List PartitionState
-
--- the store of a group in which no partition lives
-abbrev pub none_live : ℕ → Store
-none_live group = record { group = group; places = repeat MOST_OBJECTS (no_partition ∷ []) }
-
--- the group of an index from 1
-abbrev pub group_of : ℕ → ℕ
-group_of index = (index - 1) % 4
-
--- The index is one of 1 to 64, and of the group.
-pub record IsOfGroup (group index : ℕ) : Type 0 where
-  pub low : 1 ≤ index
-  pub high : index ≤ MOST_OBJECTS
-  pub of : group_of index ≡ group
-
--- There are places for 64 partitions, and at each index of another group none lives.
-pub record IsStore (store : Store) : Type 0 where
-  pub below : store.group < 4
-  pub count : length store.places ≡ MOST_OBJECTS
-  pub others : (index : ℕ) → group_of index ≢ store.group → nth no_partition store.places index ≡ no_partition
-
--- the place of an index
-abbrev pub stored_at : Store → ℕ → PartitionState
-stored_at store index = nth no_partition store.places index
-
--- the store with another place at an index
-abbrev pub put_at : Store → ℕ → PartitionState → Store
-put_at store index stored = record store { places = with_nth store.places index stored }
 
 -- the answer of a directive that is done, with an out number
 abbrev pub successful : ℕ → Reply

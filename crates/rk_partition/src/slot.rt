@@ -20,7 +20,7 @@ pub(crate) struct Slot {
 impl Model for Slot {
     ghost use Rattle.rk_model.specs.State.{PartitionState};
     ghost use Rattle.rk_partition.specs.Partitions.{IsStored};
-    ghost use Rattle.rk_partition.specs.PartitionPlaces.{stored_by};
+    ghost use Rattle.rk_partition.specs.PartitionSlots.{stored_by};
 
     ghost Value = { PartitionState };
 

@@ -1,25 +1,17 @@
-ghost use Rattle.std.specs.Prelude.{◌≡◌, ◌↔◌, ◌≤◌, ◌<◌, true, false, length, None, IfOk};
+ghost use Rattle.std.specs.Prelude.{◌≡◌, ◌↔◌, ◌<◌, true, false, None, IfOk};
 ghost use Rattle.std.specs.Borrow.{Lends, sem};
-ghost use Rattle.std.specs.List.{slice_index_or};
 ghost use Rattle.rk_model.specs.declared.status.Status.TheVariants.{Successful, ResourceInUse};
 ghost use Rattle.rk_model.specs.State.{no_partition};
 ghost use Rattle.rk_model.specs.Directives.Partitions.{memory_refusal, new_partition};
-ghost use Rattle.rk_partition.specs.Partitions.{Store, none_live, judged, IsOfGroup, IsStore, stored_at, put_at, without_first, reply_to_get, IsTaken, HasOut, returned, reply_to_return, deleted, reply_to_delete};
-ghost use Rattle.rk_partition.specs.PartitionPlaces.{place_of};
+ghost use Rattle.rk_partition.specs.Partitions.{judged, without_first, reply_to_get, IsTaken, HasOut, returned, reply_to_return, deleted, reply_to_delete};
+ghost use Rattle.rk_places.specs.Stores.{none_live, IsOfGroup, IsStoreOf, stored_at, put_at};
 
 use crate::partition;
 use crate::slot::Slot;
-use rk_model::limits::MOST_OBJECTS;
-use rk_model::{Bounded, NoMemory, Reply, Status};
-use slab::Slab;
+use rk_model::{NoMemory, Reply, Status};
+use rk_places::{PLACES, Places};
 use std::alloc::Global;
 use std::marker::Model;
-
-/// How many groups the indices are of.
-const GROUPS: u16 = 4;
-
-/// How many partitions a group has room for.
-const PLACES: usize = MOST_OBJECTS / GROUPS as usize;
 
 /// The partitions of a group: those whose index is its number and one more, or this and 4, 8 and so
 /// on up to 60 more. Contracts see the number and a place for each index from 1 to 64, of which those
@@ -29,21 +21,18 @@ const PLACES: usize = MOST_OBJECTS / GROUPS as usize;
 /// buffers stand in a list: the first is taken first, and one that is returned goes last.
 #[derive(Debug, Drop)]
 pub struct PartitionStore {
-    group: u8,
-    slots: Slab<Slot>,
-    /// The keys of the places, in the order of their indices.
-    keys: Bounded<usize, PLACES>,
+    places: Places<Slot>,
 }
 
 impl Model for PartitionStore {
-    ghost use Rattle.rk_partition.specs.Partitions.{Store};
-    ghost use Rattle.rk_partition.specs.PartitionPlaces.{spread, placed, IsHeld};
+    ghost use Rattle.rk_model.specs.State.{PartitionState, no_partition};
+    ghost use Rattle.rk_places.specs.Stores.{Store, IsFull, store_of};
 
-    ghost Value = { Store };
+    ghost Value = { Store PartitionState };
 
-    ghost view = { λ s. record { group = s.group; places = spread s.group (placed s.slots s.keys) } };
+    ghost view = { λ s. store_of no_partition s.places };
 
-    ghost invariant = { λ s. IsHeld s.group s.slots s.keys };
+    ghost invariant = { λ s. IsFull s.places };
 }
 
 impl PartitionStore {
@@ -58,15 +47,14 @@ impl PartitionStore {
     /// `NoMemory` where there is no memory for them.
     pub fn new(alloc: Global, group: u8) -> Result<PartitionStore, NoMemory>
         requires { group < 4 }
-        ensures { IfOk result (λ s. s ≡ none_live group) }
+        ensures { IfOk result (λ s. s ≡ none_live no_partition group) }
     {
-        let mut slots = Slab::with_capacity(alloc, PLACES)?;
-        let mut keys = Bounded::new(alloc)?;
+        let mut places = Places::new(alloc, group)?;
         for _made in 0..PLACES {
             let slot = Slot::new(alloc)?;
-            keys.push(slots.insert_reserved(slot));
+            places.push(slot);
         }
-        Ok(PartitionStore { group, slots, keys })
+        Ok(PartitionStore { places })
     }
 
     /// What making a partition answers (`rtems_partition_create`) to its start address, its length and
@@ -81,8 +69,8 @@ impl PartitionStore {
     /// none lives.
     pub fn is_live(&self, index: u16) -> bool
         requires { IsOfGroup self.now.group index }
-        ensures value { result ≡ (stored_at self.now index).live }
-        ensures vacant { result ≡ false → stored_at self.now index ≡ no_partition }
+        ensures value { result ≡ (stored_at no_partition self.now index).live }
+        ensures vacant { result ≡ false → stored_at no_partition self.now index ≡ no_partition }
     {
         self.slot(index).is_live()
     }
@@ -92,7 +80,7 @@ impl PartitionStore {
     /// into the length, and all are free, in rising order of their addresses. It allocates nothing.
     pub fn create(&mut self, index: u16, start: u32, length: u32, size: u32)
         requires place { IsOfGroup self.old.group index }
-        requires vacant { (stored_at self.old index).live ≡ false }
+        requires vacant { (stored_at no_partition self.old index).live ≡ false }
         requires fits { memory_refusal start length size ≡ None }
         ensures { self.new ≡ put_at self.old index (new_partition start length size) }
     {
@@ -104,10 +92,10 @@ impl PartitionStore {
     /// also tells that the buffer was free, and is out then.
     pub fn get(&mut self, index: u16) -> Reply
         requires place { IsOfGroup self.old.group index }
-        requires live { (stored_at self.old index).live ≡ true }
-        ensures partition { self.new ≡ put_at self.old index (without_first (stored_at self.old index)) }
-        ensures reply { result ≡ reply_to_get (stored_at self.old index).free }
-        ensures taken { result.status ≡ Successful → IsTaken result.out (stored_at self.old index) }
+        requires live { (stored_at no_partition self.old index).live ≡ true }
+        ensures partition { self.new ≡ put_at self.old index (without_first (stored_at no_partition self.old index)) }
+        ensures reply { result ≡ reply_to_get (stored_at no_partition self.old index).free }
+        ensures taken { result.status ≡ Successful → IsTaken result.out (stored_at no_partition self.old index) }
     {
         self.slot_mut(index).get()
     }
@@ -117,9 +105,9 @@ impl PartitionStore {
     /// buffer, or of one that isn't out.
     pub fn put_back(&mut self, index: u16, address: u32) -> Reply
         requires place { IsOfGroup self.old.group index }
-        requires live { (stored_at self.old index).live ≡ true }
-        ensures partition { self.new ≡ put_at self.old index (returned address (stored_at self.old index)) }
-        ensures reply { result ≡ reply_to_return address (stored_at self.old index) }
+        requires live { (stored_at no_partition self.old index).live ≡ true }
+        ensures partition { self.new ≡ put_at self.old index (returned address (stored_at no_partition self.old index)) }
+        ensures reply { result ≡ reply_to_return address (stored_at no_partition self.old index) }
     {
         self.slot_mut(index).put_back(address)
     }
@@ -128,10 +116,10 @@ impl PartitionStore {
     /// nothing, exactly where a buffer is out.
     pub fn remove(&mut self, index: u16) -> Reply
         requires place { IsOfGroup self.old.group index }
-        requires live { (stored_at self.old index).live ≡ true }
-        ensures partition { self.new ≡ put_at self.old index (deleted (stored_at self.old index)) }
-        ensures reply { result ≡ reply_to_delete (stored_at self.old index) }
-        ensures out { (result.status ≡ ResourceInUse) ↔ HasOut (stored_at self.old index) }
+        requires live { (stored_at no_partition self.old index).live ≡ true }
+        ensures partition { self.new ≡ put_at self.old index (deleted (stored_at no_partition self.old index)) }
+        ensures reply { result ≡ reply_to_delete (stored_at no_partition self.old index) }
+        ensures out { (result.status ≡ ResourceInUse) ↔ HasOut (stored_at no_partition self.old index) }
     {
         self.slot_mut(index).remove()
     }
@@ -139,37 +127,26 @@ impl PartitionStore {
     /// The place of an index.
     fn slot(&self, index: u16) -> &Slot
         requires { IsOfGroup self.now.group index }
-        ensures { result.now ≡ stored_at self.now index }
+        ensures { result.now ≡ stored_at no_partition self.now index }
     {
-        &self.slots[key_at(&self.keys, index)]
+        self.places.at(index)
     }
 
     /// The place of an index, to be changed.
     fn slot_mut(&mut self, index: u16) -> &mut Slot
         requires { IsOfGroup self.old.group index }
         ensures* writes_back { sem 𝓛 (Lends the_row slot_row self.entry result (put_at self.entry.now index)) }
-        ensures value { result.now ≡ stored_at self.old index }
+        ensures value { result.now ≡ stored_at no_partition self.old index }
     {
-        let key = key_at(&self.keys, index);
-        &mut self.slots[key]
+        self.places.at_mut(index)
     }
 
     /// The number of the group, from 0 to 3. Its contract also tells that there are places for 64
     /// partitions, and that at each index of another group none lives.
     pub fn group(&self) -> u8
         ensures value { result ≡ self.now.group }
-        ensures store { IsStore self.now }
+        ensures store { IsStoreOf no_partition self.now }
     {
-        self.group
+        self.places.group()
     }
-}
-
-/// The key of the place of an index.
-fn key_at(keys: &Bounded<usize, PLACES>, index: u16) -> usize
-    requires low { 1 ≤ index }
-    requires high { index ≤ MOST_OBJECTS }
-    requires count { length keys.now ≡ PLACES }
-    ensures { result ≡ slice_index_or keys.now (place_of index) 0 }
-{
-    keys.as_slice()[((index - 1) / GROUPS) as usize]
 }

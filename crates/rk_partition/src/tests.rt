@@ -1,5 +1,5 @@
 ghost use Rattle.std.specs.Prelude.{◌≡◌};
-ghost use Rattle.rk_partition.specs.Partitions.{IsOfGroup};
+ghost use Rattle.rk_places.specs.Stores.{IsOfGroup};
 
 use crate::{PartitionStore, refusal};
 use rk_model::limits::MOST_BUFFERS;

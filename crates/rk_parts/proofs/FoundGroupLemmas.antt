@@ -6,7 +6,7 @@ use Rattle.std.proofs.Math.Nat.{div-add-mod}
 use Rattle.std.proofs.Math.Seq.{map-set_same}
 use Rattle.rk_model.specs.Lists.{has, nth, with_nth}
 use Rattle.rk_model.proofs.BooleanLemmas.{same_number}
-use Rattle.rk_signal.specs.Barriers.{group_of}
+use Rattle.rk_places.specs.Stores.{group_of}
 use Rattle.rk_parts.specs.declared.parts.GroupPart.{GroupPart}
 use Rattle.rk_parts.specs.Joined.{held_by, listed, barrier_held, barriers_of, partition_held, partitions_of}
 use Rattle.rk_parts.specs.Groups.{group_at, first_of, holds, no_group, group_frame, group_frames}

@@ -20,7 +20,8 @@ use Rattle.rk_model.proofs.IndexLemmas.{nth-with_other, nth-with_same}
 use Rattle.rk_queue.proofs.QueueLemmas.{threads-append, length-threads}
 use Rattle.rk_queue.specs.declared.queue.Waiter.{Waiter}
 use Rattle.rk_queue.specs.Queues.{threads, waits_in, without as without_thread}
-use Rattle.rk_signal.specs.Barriers.{Stored, Store, no_stored, IsOfGroup, IsStore, stored_at, put_at, emptied, waiter_of, with_waiter, without_waiter, ended, is_filled, waited, woken_by_wait, reply_to_wait}
+use Rattle.rk_places.specs.Stores.{Store, IsOfGroup, IsStoreOf, stored_at, put_at}
+use Rattle.rk_signal.specs.Barriers.{Stored, no_stored, emptied, waiter_of, with_waiter, without_waiter, ended, is_filled, waited, woken_by_wait, reply_to_wait}
 use Rattle.rk_parts.specs.declared.parts.ClusterPart.{ClusterPart}
 use Rattle.rk_parts.specs.declared.parts.GroupPart.{GroupPart}
 use Rattle.rk_parts.specs.Joined.{barrier_of, barrier_group, barrier_in, barrier_held, barriers_of, barrier_lent, partition_group, partition_in, joined, thread_lent}
@@ -41,7 +42,7 @@ length_barriers groups = length-listed (barrier_held groups) 1 64
 -- ---- the group of an index
 
 -- a group that is found has its barrier,
-pub barrier_found : (groups : List GroupPart) (at i : ℕ) → group_in groups i ≡ Some at → barrier_held groups i ≡ barrier_of (stored_at (group_at groups at).barriers i)
+pub barrier_found : (groups : List GroupPart) (at i : ℕ) → group_in groups i ≡ Some at → barrier_held groups i ≡ barrier_of (stored_at no_stored (group_at groups at).barriers i)
 barrier_found groups at i found = found_holds barrier_group barrier_in no_barrier groups at i found
 
 -- and the waits that ended;
@@ -67,9 +68,9 @@ pub group_is : (groups : List GroupPart) (at i : ℕ) (group : GroupPart) → gr
 group_is groups at i group found = get_or-any groups at no_group group (found_inside barrier_group groups at i found)
 
 -- the barrier of an index, where its group is found
-pub stands_for : (groups : List GroupPart) (at i : ℕ) (group : GroupPart) → 1 ≤ i → i ≤ 64 → Some at ≡ group_in groups i → barrier_of (stored_at (get_or groups at group).barriers i) ≡ barrier_lent groups i
+pub stands_for : (groups : List GroupPart) (at i : ℕ) (group : GroupPart) → 1 ≤ i → i ≤ 64 → Some at ≡ group_in groups i → barrier_of (stored_at no_stored (get_or groups at group).barriers i) ≡ barrier_lent groups i
 stands_for groups at i group low high found =
-    sym (barrier_is_held groups i low high ∙ barrier_found groups at i (sym found) ∙ ap (λ (g : GroupPart). barrier_of (stored_at g.barriers i)) (group_is groups at i group (sym found)))
+    sym (barrier_is_held groups i low high ∙ barrier_found groups at i (sym found) ∙ ap (λ (g : GroupPart). barrier_of (stored_at no_stored g.barriers i)) (group_is groups at i group (sym found)))
 
 -- and the index is that of the group
 pub of_group : (groups : List GroupPart) (at i : ℕ) (group : GroupPart) → 1 ≤ i → i ≤ 64 → Some at ≡ group_in groups i → IsOfGroup (get_or groups at group).barriers.group i
@@ -91,7 +92,7 @@ unfolding barriers_of
 barriers_put old new i b low same = put-listed (barrier_held old) (barrier_held new) i b low same
 
 -- a change of the place of an index, in its group
-pub puts_barrier : (groups : List GroupPart) (at i : ℕ) (x : Stored) (wakes : List Wake) → 1 ≤ i → i ≤ 64 → group_in groups i ≡ Some at → IsStore (group_at groups at).barriers → PutsBarrier groups i (barrier_of x) (set groups at (changed (group_at groups at) i x wakes))
+pub puts_barrier : (groups : List GroupPart) (at i : ℕ) (x : Stored) (wakes : List Wake) → 1 ≤ i → i ≤ 64 → group_in groups i ≡ Some at → IsStoreOf no_stored (group_at groups at).barriers → PutsBarrier groups i (barrier_of x) (set groups at (changed (group_at groups at) i x wakes))
 puts_barrier groups at i x wakes low high found store =
     let group = group_at groups at in
     let next = changed group i x wakes in
@@ -186,15 +187,15 @@ leaves_outside groups (suc j) t outside =
       by n is (inr more) = omega (arith, is, more)
 
 -- and of one that lives where it may or may not wait.
-pub leaves_found : (groups : List GroupPart) (at i t : ℕ) → 1 ≤ i → i ≤ 64 → group_in groups i ≡ Some at → IsStore (group_at groups at).barriers → Leaves groups t (Some (AtBarrier i)) (set groups at (record (group_at groups at) { barriers = left_at (group_at groups at).barriers i t }))
-leaves_found groups at i t low high found store = by (waits_in (stored_at (group_at groups at).barriers i).queue t) refl where
-  is : barrier_lent groups i ≡ barrier_of (stored_at (group_at groups at).barriers i)
+pub leaves_found : (groups : List GroupPart) (at i t : ℕ) → 1 ≤ i → i ≤ 64 → group_in groups i ≡ Some at → IsStoreOf no_stored (group_at groups at).barriers → Leaves groups t (Some (AtBarrier i)) (set groups at (record (group_at groups at) { barriers = left_at (group_at groups at).barriers i t }))
+leaves_found groups at i t low high found store = by (waits_in (stored_at no_stored (group_at groups at).barriers i).queue t) refl where
+  is : barrier_lent groups i ≡ barrier_of (stored_at no_stored (group_at groups at).barriers i)
   is = barrier_is_held groups i low high ∙ barrier_found groups at i found
 
-  by : (b : Bool) → waits_in (stored_at (group_at groups at).barriers i).queue t ≡ b →
-      Leaves groups t (Some (AtBarrier i)) (set groups at (record (group_at groups at) { barriers = cond b (put_at (group_at groups at).barriers i (without_waiter t (stored_at (group_at groups at).barriers i))) (group_at groups at).barriers }))
+  by : (b : Bool) → waits_in (stored_at no_stored (group_at groups at).barriers i).queue t ≡ b →
+      Leaves groups t (Some (AtBarrier i)) (set groups at (record (group_at groups at) { barriers = cond b (put_at (group_at groups at).barriers i (without_waiter t (stored_at no_stored (group_at groups at).barriers i))) (group_at groups at).barriers }))
   by true waits =
-      let x = stored_at (group_at groups at).barriers i in
+      let x = stored_at no_stored (group_at groups at).barriers i in
       let puts = puts_barrier groups at i (without_waiter t x) (group_at groups at).wakes low high found store in
       let left : barrier_of (without_waiter t x) ≡ left_by_thread t (barrier_lent groups i) = left_is t x ∙ ap (left_by_thread t) (sym is) in
       record {
@@ -212,7 +213,7 @@ as_changed : (groups : List GroupPart) (at i : ℕ) (group next : GroupPart) (x 
 as_changed groups at i group next x wakes found is = ap (set groups at) (is ∙ ap (λ (g : GroupPart). changed g i x wakes) (sym (group_is groups at i group found)))
 
 -- the groups after a place of one of them was changed stand for the barriers with another one,
-pub put_there : (groups : List GroupPart) (at i : ℕ) (group next : GroupPart) (x : Stored) (wakes : List Wake) (b : BarrierState) → 1 ≤ i → i ≤ 64 → group_in groups i ≡ Some at → IsStore (group_at groups at).barriers → next ≡ changed (get_or groups at group) i x wakes → barrier_of x ≡ b → PutsBarrier groups i b (set groups at next)
+pub put_there : (groups : List GroupPart) (at i : ℕ) (group next : GroupPart) (x : Stored) (wakes : List Wake) (b : BarrierState) → 1 ≤ i → i ≤ 64 → group_in groups i ≡ Some at → IsStoreOf no_stored (group_at groups at).barriers → next ≡ changed (get_or groups at group) i x wakes → barrier_of x ≡ b → PutsBarrier groups i b (set groups at next)
 put_there groups at i group next x wakes b low high found store is stands =
     subst (λ (c : BarrierState). PutsBarrier groups i c (set groups at next)) stands
     (subst (PutsBarrier groups i (barrier_of x)) (sym (as_changed groups at i group next x wakes found is)) (puts_barrier groups at i x wakes low high found store))
@@ -221,10 +222,10 @@ put_there groups at i group next x wakes b low high found store is stands =
 pub woken_there : (groups : List GroupPart) (at i : ℕ) (group next : GroupPart) (x : Stored) (wakes ended : List Wake) → group_in groups i ≡ Some at → next ≡ changed (get_or groups at group) i x wakes → wakes ≡ ended → wakes_at (set groups at next) i ≡ ended
 woken_there groups at i group next x wakes ended found is same = ap (λ (gs : List GroupPart). wakes_at gs i) (as_changed groups at i group next x wakes found is) ∙ wakes_here groups at i x wakes found ∙ same
 
-pub as_left : (groups : List GroupPart) (at i t : ℕ) (group : GroupPart) (barriers : Store) → group_in groups i ≡ Some at → barriers ≡ left_at (get_or groups at group).barriers i t →
+pub as_left : (groups : List GroupPart) (at i t : ℕ) (group : GroupPart) (barriers : Store Stored) → group_in groups i ≡ Some at → barriers ≡ left_at (get_or groups at group).barriers i t →
     set groups at (record (get_or groups at group) { barriers = barriers }) ≡ set groups at (record (group_at groups at) { barriers = left_at (group_at groups at).barriers i t })
 as_left groups at i t group barriers found is =
-    ap (λ (s : Store). set groups at (record (get_or groups at group) { barriers = s })) is
+    ap (λ (s : Store Stored). set groups at (record (get_or groups at group) { barriers = s })) is
     ∙ ap (λ (g : GroupPart). set groups at (record g { barriers = left_at g.barriers i t })) (sym (group_is groups at i group found))
 
 -- ---- in the state that the groups stand for

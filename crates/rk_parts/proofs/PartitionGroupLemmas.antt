@@ -6,7 +6,7 @@ use Rattle.rk_model.specs.Lists.{with_nth}
 use Rattle.rk_model.specs.Names.{Table}
 use Rattle.rk_model.specs.State.{PartitionState, no_barrier, no_partition, put_partition}
 use Rattle.rk_model.proofs.IndexLemmas.{nth-with_other, nth-with_same}
-use Rattle.rk_partition.specs.Partitions.{Store, IsOfGroup, IsStore, put_at}
+use Rattle.rk_places.specs.Stores.{Store, IsOfGroup, IsStoreOf, put_at}
 use Rattle.rk_parts.specs.declared.parts.ClusterPart.{ClusterPart}
 use Rattle.rk_parts.specs.declared.parts.GroupPart.{GroupPart}
 use Rattle.rk_parts.specs.Joined.{barrier_group, barrier_in, partition_group, partition_in, partition_held, partitions_of, partition_lent, joined}
@@ -62,7 +62,7 @@ partitions_put old new i p low same = put-listed (partition_held old) (partition
 abbrev with_partition : GroupPart → ℕ → PartitionState → GroupPart
 with_partition group i x = record group { partitions = put_at group.partitions i x }
 
-puts_partition : (groups : List GroupPart) (at i : ℕ) (x : PartitionState) → 1 ≤ i → i ≤ 64 → partitions_in groups i ≡ Some at → IsStore (group_at groups at).partitions → PutsPartition groups i x (set groups at (with_partition (group_at groups at) i x))
+puts_partition : (groups : List GroupPart) (at i : ℕ) (x : PartitionState) → 1 ≤ i → i ≤ 64 → partitions_in groups i ≡ Some at → IsStoreOf no_partition (group_at groups at).partitions → PutsPartition groups i x (set groups at (with_partition (group_at groups at) i x))
 puts_partition groups at i x low high found store =
     let group = group_at groups at in
     let next = with_partition group i x in
@@ -75,7 +75,7 @@ puts_partition groups at i x low high found store =
     }
 
 -- the groups after a partition of one of them was changed, as the code has them
-pub partition_put : (groups : List GroupPart) (at i : ℕ) (group : GroupPart) (store : Store) (x p : PartitionState) → 1 ≤ i → i ≤ 64 → Some at ≡ partitions_in groups i → IsStore (group_at groups at).partitions → store ≡ put_at (get_or groups at group).partitions i x → x ≡ p →
+pub partition_put : (groups : List GroupPart) (at i : ℕ) (group : GroupPart) (store : Store PartitionState) (x p : PartitionState) → 1 ≤ i → i ≤ 64 → Some at ≡ partitions_in groups i → IsStoreOf no_partition (group_at groups at).partitions → store ≡ put_at (get_or groups at group).partitions i x → x ≡ p →
     PutsPartition groups i p (set groups at (record (get_or groups at group) { partitions = store }))
 partition_put groups at i group store x p low high found is_store is stands =
     subst (λ (y : PartitionState). PutsPartition groups i y (set groups at (record (get_or groups at group) { partitions = store }))) stands
@@ -83,7 +83,7 @@ partition_put groups at i group store x p low high found is_store is stands =
   where
     same : set groups at (record (get_or groups at group) { partitions = store }) ≡ set groups at (with_partition (group_at groups at) i x)
     same =
-        ap (λ (s : Store). set groups at (record (get_or groups at group) { partitions = s })) is
+        ap (λ (s : Store PartitionState). set groups at (record (get_or groups at group) { partitions = s })) is
         ∙ ap (λ (g : GroupPart). set groups at (with_partition g i x)) (sym (group_is groups at i group (sym found)))
 
 -- ---- in the state that the groups stand for

@@ -11,7 +11,7 @@ use Rattle.rk_parts.specs.Joined.{barrier_group, barrier_in, barriers_of, partit
 use Rattle.rk_parts.specs.Lent.{AreLaid, Layout, layout, layouts, stored}
 use Rattle.rk_parts.specs.Noted.{part_at, standings_in, key_of, IsKeyed, AreNoted}
 use Rattle.rk_parts.specs.Whole.{AreWhole, ticks_of, ticks_in, numbers_in, partition_numbers, at_tick, group_at_tick}
-use Rattle.rk_signal.specs.Barriers.{group_of}
+use Rattle.rk_places.specs.Stores.{group_of}
 use Rattle.rk_parts.proofs.FoundGroupLemmas.{barriers_same, partitions_same}
 use Rattle.rk_parts.proofs.ListedLemmas.{same_listed}
 use Rattle.rk_parts.proofs.PutLemmas.{Ranked, keys_in}

@@ -11,7 +11,8 @@ use Rattle.rk_model.specs.State.{BarrierState, PartitionState}
 use Rattle.rk_model.specs.Directives.Barriers.{is_full}
 use Rattle.rk_model.specs.Directives.Waits.{Object, OfBarrier, bare, object_of_wait, without_arrival}
 use Rattle.rk_queue.specs.Queues.{waits_in}
-use Rattle.rk_signal.specs.Barriers.{Store, group_of, stored_at, put_at, without_waiter}
+use Rattle.rk_places.specs.Stores.{Store, group_of, stored_at, put_at}
+use Rattle.rk_signal.specs.Barriers.{Stored, no_stored, without_waiter}
 use Rattle.rk_parts.specs.declared.parts.GroupPart.{GroupPart}
 use Rattle.rk_parts.specs.Joined.{barrier_group, partition_group, held_by, barriers_of, partitions_of}
 use Rattle.rk_parts.specs.Lent.{one_more}
@@ -107,5 +108,5 @@ barrier_object None = None
 barrier_object (Some i) = Some (OfBarrier i)
 
 -- the barriers of a group after a thread has left one of them, where it waits there
-abbrev pub left_at : Store → ℕ → ℕ → Store
-left_at store i t = if waits_in (stored_at store i).queue t then put_at store i (without_waiter t (stored_at store i)) else store
+abbrev pub left_at : Store Stored → ℕ → ℕ → Store Stored
+left_at store i t = if waits_in (stored_at no_stored store i).queue t then put_at store i (without_waiter t (stored_at no_stored store i)) else store

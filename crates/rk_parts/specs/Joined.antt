@@ -12,8 +12,8 @@ use Rattle.rk_model.specs.Histories.{free_cluster}
 use Rattle.rk_model.specs.Directives.Objects.{has_begun}
 use Rattle.rk_line.specs.Places.{threads}
 use Rattle.rk_queue.specs.Queues.{threads as waiting}
-use Rattle.rk_signal.specs.Barriers.{Stored, group_of, stored_at}
-use Rattle.rk_partition.specs.Partitions.{stored_at as partition_stored}
+use Rattle.rk_places.specs.Stores.{group_of, stored_at}
+use Rattle.rk_signal.specs.Barriers.{Stored, no_stored}
 use Rattle.rk_parts.specs.declared.parts.ClusterPart.{ClusterPart}
 use Rattle.rk_parts.specs.declared.parts.GroupPart.{GroupPart}
 use Rattle.rk_parts.specs.declared.parts.AllParts.{AllParts}
@@ -79,10 +79,10 @@ held_by number at none (group ∷ groups) i = if number group == group_of i then
 
 -- the barrier and the partition that a group has at an index
 abbrev pub barrier_in : GroupPart → ℕ → BarrierState
-barrier_in group i = barrier_of (stored_at group.barriers i)
+barrier_in group i = barrier_of (stored_at no_stored group.barriers i)
 
 abbrev pub partition_in : GroupPart → ℕ → PartitionState
-partition_in group i = partition_stored group.partitions i
+partition_in group i = stored_at no_partition group.partitions i
 
 -- the barrier and the partition of an index, in the first of these groups that is its group
 abbrev pub barrier_held : List GroupPart → ℕ → BarrierState

@@ -10,7 +10,8 @@ ghost use Rattle.rk_model.specs.State.{no_barrier};
 ghost use Rattle.rk_model.specs.Directives.Barriers.{new_barrier};
 ghost use Rattle.rk_model.specs.Directives.Waits.{object_of_wait};
 ghost use Rattle.rk_queue.specs.Queues.{waits_in};
-ghost use Rattle.rk_signal.specs.Barriers.{IsOfGroup, IsStore, stored_at, put_at, no_stored, emptied, ended, successful, waited, woken_by_wait, reply_to_wait};
+ghost use Rattle.rk_places.specs.Stores.{IsOfGroup, IsStoreOf, stored_at, put_at};
+ghost use Rattle.rk_signal.specs.Barriers.{no_stored, emptied, ended, successful, waited, woken_by_wait, reply_to_wait};
 ghost use Rattle.rk_parts.specs.Joined.{barrier_lent};
 ghost use Rattle.rk_parts.specs.Groups.{group_at, group_in, is_lent, wakes_at, PutsBarrier, Leaves, ended_waits, waited_at, woken_at, reply_at, barrier_object, left_at};
 
@@ -25,7 +26,7 @@ fn place_of(groups: &[GroupPart], index: u16) -> Option<usize>
     requires { 1 ≤ index }
     ensures place { result ≡ group_in groups.now index }
     ensures within { IfSome result (λ at. at < length groups.now) }
-    ensures store { IfSome result (λ at. IsStore (group_at groups.now at).barriers) }
+    ensures store { IfSome result (λ at. IsStoreOf no_stored (group_at groups.now at).barriers) }
 {
     for at in 0..groups.len() {
         if u16::from(groups[at].barriers.group()) == (index - 1) % 4 {
@@ -64,10 +65,10 @@ pub fn create(groups: &mut [GroupPart], index: u16, automatic: bool, most: u32)
 /// Waits at a barrier of a group, and notes whose waits end.
 fn wait_in(group: &mut GroupPart, index: u16, by: Caller) -> Reply
     requires place { IsOfGroup group.old.barriers.group index }
-    requires live { (stored_at group.old.barriers index).live ≡ true }
-    requires absent { waits_in (stored_at group.old.barriers index).queue by.thread ≡ false }
-    ensures group { group.new ≡ record group.old { barriers = put_at group.old.barriers index (waited by (stored_at group.old.barriers index)); wakes = woken_by_wait (stored_at group.old.barriers index) } }
-    ensures reply { result ≡ reply_to_wait (stored_at group.old.barriers index) }
+    requires live { (stored_at no_stored group.old.barriers index).live ≡ true }
+    requires absent { waits_in (stored_at no_stored group.old.barriers index).queue by.thread ≡ false }
+    ensures group { group.new ≡ record group.old { barriers = put_at group.old.barriers index (waited by (stored_at no_stored group.old.barriers index)); wakes = woken_by_wait (stored_at no_stored group.old.barriers index) } }
+    ensures reply { result ≡ reply_to_wait (stored_at no_stored group.old.barriers index) }
 {
     group.wakes.clear();
     group.barriers.wait(index, by, &mut group.wakes)
@@ -96,9 +97,9 @@ pub fn wait(groups: &mut [GroupPart], index: u16, by: Caller) -> Reply
 /// Releases a barrier of a group, and notes whose waits end.
 fn release_in(group: &mut GroupPart, index: u16) -> Reply
     requires place { IsOfGroup group.old.barriers.group index }
-    requires live { (stored_at group.old.barriers index).live ≡ true }
-    ensures group { group.new ≡ record group.old { barriers = put_at group.old.barriers index (emptied (stored_at group.old.barriers index)); wakes = ended Successful (stored_at group.old.barriers index).queue.arrivals } }
-    ensures reply { result ≡ successful (length (stored_at group.old.barriers index).queue.arrivals) }
+    requires live { (stored_at no_stored group.old.barriers index).live ≡ true }
+    ensures group { group.new ≡ record group.old { barriers = put_at group.old.barriers index (emptied (stored_at no_stored group.old.barriers index)); wakes = ended Successful (stored_at no_stored group.old.barriers index).queue.arrivals } }
+    ensures reply { result ≡ successful (length (stored_at no_stored group.old.barriers index).queue.arrivals) }
 {
     group.wakes.clear();
     group.barriers.release(index, &mut group.wakes)
@@ -125,8 +126,8 @@ pub fn release(groups: &mut [GroupPart], index: u16) -> Reply
 /// Ends the life of a barrier of a group, and notes whose waits end.
 fn remove_in(group: &mut GroupPart, index: u16)
     requires place { IsOfGroup group.old.barriers.group index }
-    requires live { (stored_at group.old.barriers index).live ≡ true }
-    ensures { group.new ≡ record group.old { barriers = put_at group.old.barriers index no_stored; wakes = ended ObjectWasDeleted (stored_at group.old.barriers index).queue.arrivals } }
+    requires live { (stored_at no_stored group.old.barriers index).live ≡ true }
+    ensures { group.new ≡ record group.old { barriers = put_at group.old.barriers index no_stored; wakes = ended ObjectWasDeleted (stored_at no_stored group.old.barriers index).queue.arrivals } }
 {
     group.wakes.clear();
     let _reply = group.barriers.remove(index, &mut group.wakes);

@@ -3,8 +3,10 @@
 
 ghost use Rattle.std.specs.Prelude.{◌≡◌, ◌<◌, ◌≤◌, None, IfSome, length, true, false};
 ghost use Rattle.rk_model.specs.declared.limits.TheConstants.{MOST_OBJECTS};
+ghost use Rattle.rk_model.specs.State.{no_partition};
 ghost use Rattle.rk_model.specs.Directives.Partitions.{memory_refusal, new_partition};
-ghost use Rattle.rk_partition.specs.Partitions.{IsStore, without_first, reply_to_get, returned, reply_to_return, deleted, reply_to_delete};
+ghost use Rattle.rk_places.specs.Stores.{IsStoreOf};
+ghost use Rattle.rk_partition.specs.Partitions.{without_first, reply_to_get, returned, reply_to_return, deleted, reply_to_delete};
 ghost use Rattle.rk_parts.specs.Joined.{partition_lent};
 ghost use Rattle.rk_parts.specs.Groups.{group_at, partitions_in, holds_partitions, PutsPartition};
 
@@ -17,7 +19,7 @@ fn place_of(groups: &[GroupPart], index: u16) -> Option<usize>
     requires { 1 ≤ index }
     ensures place { result ≡ partitions_in groups.now index }
     ensures within { IfSome result (λ at. at < length groups.now) }
-    ensures store { IfSome result (λ at. IsStore (group_at groups.now at).partitions) }
+    ensures store { IfSome result (λ at. IsStoreOf no_partition (group_at groups.now at).partitions) }
 {
     for at in 0..groups.len() {
         if u16::from(groups[at].partitions.group()) == (index - 1) % 4 {

@@ -1,14 +1,11 @@
 -- What the directives of the barrier manager do to the barriers of a group.
-use Rattle.std.specs.Prelude.{ℕ, ◌≡◌, ◌+◌, ◌-◌, ◌%◌, ◌≤◌, ◌<◌, ◌≢◌, Bool, true, false, ◌&&◌, List, [], ◌∷◌, length, map, nat_le, if◌then◌else◌}
-use Rattle.std.specs.List.{repeat}
+use Rattle.std.specs.Prelude.{ℕ, ◌≡◌, ◌+◌, Bool, true, false, ◌&&◌, List, [], length, map, nat_le, if◌then◌else◌}
 use Rattle.rk_model.specs.declared.entry.Reply.{Reply}
-use Rattle.rk_model.specs.declared.limits.TheConstants.{MOST_OBJECTS}
 use Rattle.rk_model.specs.declared.status.Status.{Status}
 use Rattle.rk_model.specs.declared.status.Status.TheVariants.{Successful, Waits}
 use Rattle.rk_model.specs.declared.waiting.Caller.{Caller}
 use Rattle.rk_model.specs.declared.waiting.Order.TheVariants.{Fifo}
 use Rattle.rk_model.specs.declared.waiting.Wake.{Wake}
-use Rattle.rk_model.specs.Lists.{nth, with_nth}
 use Rattle.rk_queue.specs.declared.queue.Waiter.{Waiter}
 use Rattle.rk_queue.specs.Queues.{Queue, empty, entered, left_by}
 
@@ -30,39 +27,6 @@ barrier automatic most = record { live = true; automatic = automatic; most = mos
 -- Where no barrier lives, none waits.
 abbrev pub IsStored : Stored → Type 0
 IsStored stored = stored.live ≡ false → stored ≡ no_stored
-
--- The barriers of a group: its number from 0 to 3, and a place for each index from 1 to 64.
-pub record Store : Type 0 where
-  pub group : ℕ
-  pub places : List Stored
-
--- the store of a group in which no barrier lives
-abbrev pub none_live : ℕ → Store
-none_live group = record { group = group; places = repeat MOST_OBJECTS (no_stored ∷ []) }
-
--- the group of an index from 1
-abbrev pub group_of : ℕ → ℕ
-group_of index = (index - 1) % 4
-
--- The index is one of 1 to 64, and of the group.
-pub record IsOfGroup (group index : ℕ) : Type 0 where
-  pub low : 1 ≤ index
-  pub high : index ≤ MOST_OBJECTS
-  pub of : group_of index ≡ group
-
--- There are places for 64 barriers, and at each index of another group none lives.
-pub record IsStore (store : Store) : Type 0 where
-  pub below : store.group < 4
-  pub count : length store.places ≡ MOST_OBJECTS
-  pub others : (index : ℕ) → group_of index ≢ store.group → nth no_stored store.places index ≡ no_stored
-
--- the place of an index
-abbrev pub stored_at : Store → ℕ → Stored
-stored_at store index = nth no_stored store.places index
-
--- the store with another place at an index
-abbrev pub put_at : Store → ℕ → Stored → Store
-put_at store index stored = record store { places = with_nth store.places index stored }
 
 -- the waiter as which a task waits
 abbrev pub waiter_of : Caller → Waiter

@@ -1,2 +1,2 @@
+pub mod BarrierSlots
 pub mod Barriers
-pub mod Places

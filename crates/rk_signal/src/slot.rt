@@ -27,7 +27,7 @@ pub(crate) struct Slot {
 
 impl Model for Slot {
     ghost use Rattle.rk_signal.specs.Barriers.{Stored, IsStored};
-    ghost use Rattle.rk_signal.specs.Places.{stored_by};
+    ghost use Rattle.rk_signal.specs.BarrierSlots.{stored_by};
 
     ghost Value = { Stored };
 

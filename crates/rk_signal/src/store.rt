@@ -1,45 +1,34 @@
-ghost use Rattle.std.specs.Prelude.{◌≡◌, ◌≢◌, ◌≤◌, ◌<◌, [], ◌∷◌, true, false, length, IfOk};
+ghost use Rattle.std.specs.Prelude.{◌≡◌, ◌≢◌, ◌<◌, [], true, false, length, IfOk};
 ghost use Rattle.std.specs.Borrow.{Lends, sem};
-ghost use Rattle.std.specs.List.{slice_index_or};
 ghost use Rattle.rk_model.specs.declared.status.Status.TheVariants.{Successful, ObjectWasDeleted};
 ghost use Rattle.rk_model.specs.Lists.{has};
 ghost use Rattle.rk_queue.specs.Queues.{clusters, waits_in, IsQueue};
-ghost use Rattle.rk_signal.specs.Barriers.{Store, Stored, no_stored, none_live, barrier, IsOfGroup, IsStore, stored_at, put_at, without_waiter, emptied, ended, is_filled, successful, waited, woken_by_wait, reply_to_wait};
-ghost use Rattle.rk_signal.specs.Places.{place_of};
+ghost use Rattle.rk_places.specs.Stores.{none_live, IsOfGroup, IsStoreOf, stored_at, put_at};
+ghost use Rattle.rk_signal.specs.Barriers.{no_stored, barrier, without_waiter, emptied, ended, is_filled, successful, waited, woken_by_wait, reply_to_wait};
 
 use crate::slot::Slot;
-use rk_model::limits::MOST_OBJECTS;
-use rk_model::{Bounded, Caller, NoMemory, Reply, ThreadIx, Wakes};
-use slab::Slab;
+use rk_model::{Caller, NoMemory, Reply, ThreadIx, Wakes};
+use rk_places::{PLACES, Places};
 use std::alloc::Global;
 use std::marker::Model;
-
-/// How many groups the indices are of.
-const GROUPS: u16 = 4;
-
-/// How many barriers a group has room for.
-const PLACES: usize = MOST_OBJECTS / GROUPS as usize;
 
 /// The barriers of a group: those whose index is its number and one more, or this and 4, 8 and so on
 /// up to 60 more. Contracts see the number and a place for each index from 1 to 64, of which those
 /// of other groups have no barrier.
 #[derive(Debug, Drop)]
 pub struct BarrierStore {
-    group: u8,
-    slots: Slab<Slot>,
-    /// The keys of the places, in the order of their indices.
-    keys: Bounded<usize, PLACES>,
+    places: Places<Slot>,
 }
 
 impl Model for BarrierStore {
-    ghost use Rattle.rk_signal.specs.Barriers.{Store};
-    ghost use Rattle.rk_signal.specs.Places.{spread, placed, IsHeld};
+    ghost use Rattle.rk_places.specs.Stores.{Store, IsFull, store_of};
+    ghost use Rattle.rk_signal.specs.Barriers.{Stored, no_stored};
 
-    ghost Value = { Store };
+    ghost Value = { Store Stored };
 
-    ghost view = { λ s. record { group = s.group; places = spread s.group (placed s.slots s.keys) } };
+    ghost view = { λ s. store_of no_stored s.places };
 
-    ghost invariant = { λ s. IsHeld s.group s.slots s.keys };
+    ghost invariant = { λ s. IsFull s.places };
 }
 
 impl BarrierStore {
@@ -53,22 +42,21 @@ impl BarrierStore {
     /// `NoMemory` where there is no memory for them.
     pub fn new(alloc: Global, group: u8) -> Result<BarrierStore, NoMemory>
         requires { group < 4 }
-        ensures { IfOk result (λ s. s ≡ none_live group) }
+        ensures { IfOk result (λ s. s ≡ none_live no_stored group) }
     {
-        let mut slots = Slab::with_capacity(alloc, PLACES)?;
-        let mut keys = Bounded::new(alloc)?;
+        let mut places = Places::new(alloc, group)?;
         for _made in 0..PLACES {
             let slot = Slot::new(alloc)?;
-            keys.push(slots.insert_reserved(slot));
+            places.push(slot);
         }
-        Ok(BarrierStore { group, slots, keys })
+        Ok(BarrierStore { places })
     }
 
     /// Whether a barrier of this index lives. None waits where none lives.
     pub fn is_live(&self, index: u16) -> bool
         requires { IsOfGroup self.now.group index }
-        ensures value { result ≡ (stored_at self.now index).live }
-        ensures vacant { result ≡ false → stored_at self.now index ≡ no_stored }
+        ensures value { result ≡ (stored_at no_stored self.now index).live }
+        ensures vacant { result ≡ false → stored_at no_stored self.now index ≡ no_stored }
     {
         self.slot(index).is_live()
     }
@@ -76,7 +64,7 @@ impl BarrierStore {
     /// Whether a waiter of a cluster is at a barrier.
     pub fn waits_from(&self, index: u16, cluster: u8) -> bool
         requires { IsOfGroup self.now.group index }
-        ensures { result ≡ has (clusters (stored_at self.now index).queue.arrivals) cluster }
+        ensures { result ≡ has (clusters (stored_at no_stored self.now index).queue.arrivals) cluster }
     {
         self.slot(index).waits_from(cluster)
     }
@@ -84,8 +72,8 @@ impl BarrierStore {
     /// Whether a thread waits at a barrier. Its contract also tells what each queue is.
     pub fn waits_at(&self, index: u16, thread: ThreadIx) -> bool
         requires { IsOfGroup self.now.group index }
-        ensures value { result ≡ waits_in (stored_at self.now index).queue thread }
-        ensures queue { IsQueue (stored_at self.now index).queue.arrivals (stored_at self.now index).queue.turns }
+        ensures value { result ≡ waits_in (stored_at no_stored self.now index).queue thread }
+        ensures queue { IsQueue (stored_at no_stored self.now index).queue.arrivals (stored_at no_stored self.now index).queue.turns }
     {
         self.slot(index).waits_at(thread)
     }
@@ -94,7 +82,7 @@ impl BarrierStore {
     /// at least as many as it is released at.
     pub fn is_full(&self, index: u16) -> bool
         requires { IsOfGroup self.now.group index }
-        ensures { result ≡ is_filled (stored_at self.now index) }
+        ensures { result ≡ is_filled (stored_at no_stored self.now index) }
     {
         self.slot(index).is_full()
     }
@@ -103,7 +91,7 @@ impl BarrierStore {
     /// waiters. It takes no memory.
     pub fn create(&mut self, index: u16, automatic: bool, most: u32)
         requires place { IsOfGroup self.old.group index }
-        requires vacant { (stored_at self.old index).live ≡ false }
+        requires vacant { (stored_at no_stored self.old index).live ≡ false }
         requires some { automatic ≡ true → most ≢ 0 }
         ensures { self.new ≡ put_at self.old index (barrier automatic most) }
     {
@@ -115,12 +103,12 @@ impl BarrierStore {
     /// arrival, and the caller goes on with `Successful`. Else the caller waits.
     pub fn wait(&mut self, index: u16, by: Caller, wakes: &mut Wakes) -> Reply
         requires place { IsOfGroup self.old.group index }
-        requires live { (stored_at self.old index).live ≡ true }
-        requires absent { waits_in (stored_at self.old index).queue by.thread ≡ false }
+        requires live { (stored_at no_stored self.old index).live ≡ true }
+        requires absent { waits_in (stored_at no_stored self.old index).queue by.thread ≡ false }
         requires none { wakes.old ≡ [] }
-        ensures barrier { self.new ≡ put_at self.old index (waited by (stored_at self.old index)) }
-        ensures woken { wakes.new ≡ woken_by_wait (stored_at self.old index) }
-        ensures reply { result ≡ reply_to_wait (stored_at self.old index) }
+        ensures barrier { self.new ≡ put_at self.old index (waited by (stored_at no_stored self.old index)) }
+        ensures woken { wakes.new ≡ woken_by_wait (stored_at no_stored self.old index) }
+        ensures reply { result ≡ reply_to_wait (stored_at no_stored self.old index) }
     {
         self.slot_mut(index).wait(by, wakes)
     }
@@ -129,11 +117,11 @@ impl BarrierStore {
     /// arrival. The out number is how many these are.
     pub fn release(&mut self, index: u16, wakes: &mut Wakes) -> Reply
         requires place { IsOfGroup self.old.group index }
-        requires live { (stored_at self.old index).live ≡ true }
+        requires live { (stored_at no_stored self.old index).live ≡ true }
         requires none { wakes.old ≡ [] }
-        ensures barrier { self.new ≡ put_at self.old index (emptied (stored_at self.old index)) }
-        ensures woken { wakes.new ≡ ended Successful (stored_at self.old index).queue.arrivals }
-        ensures reply { result ≡ successful (length (stored_at self.old index).queue.arrivals) }
+        ensures barrier { self.new ≡ put_at self.old index (emptied (stored_at no_stored self.old index)) }
+        ensures woken { wakes.new ≡ ended Successful (stored_at no_stored self.old index).queue.arrivals }
+        ensures reply { result ≡ successful (length (stored_at no_stored self.old index).queue.arrivals) }
     {
         self.slot_mut(index).release(wakes)
     }
@@ -142,10 +130,10 @@ impl BarrierStore {
     /// `ObjectWasDeleted`, in order of arrival.
     pub fn remove(&mut self, index: u16, wakes: &mut Wakes) -> Reply
         requires place { IsOfGroup self.old.group index }
-        requires live { (stored_at self.old index).live ≡ true }
+        requires live { (stored_at no_stored self.old index).live ≡ true }
         requires none { wakes.old ≡ [] }
         ensures barrier { self.new ≡ put_at self.old index no_stored }
-        ensures woken { wakes.new ≡ ended ObjectWasDeleted (stored_at self.old index).queue.arrivals }
+        ensures woken { wakes.new ≡ ended ObjectWasDeleted (stored_at no_stored self.old index).queue.arrivals }
         ensures reply { result ≡ successful 0 }
     {
         self.slot_mut(index).remove(wakes)
@@ -154,9 +142,9 @@ impl BarrierStore {
     /// Takes a thread out that waits at a barrier, whose wait ends otherwise.
     pub fn extract(&mut self, index: u16, thread: ThreadIx)
         requires place { IsOfGroup self.old.group index }
-        requires live { (stored_at self.old index).live ≡ true }
-        requires waits { waits_in (stored_at self.old index).queue thread ≡ true }
-        ensures { self.new ≡ put_at self.old index (without_waiter thread (stored_at self.old index)) }
+        requires live { (stored_at no_stored self.old index).live ≡ true }
+        requires waits { waits_in (stored_at no_stored self.old index).queue thread ≡ true }
+        ensures { self.new ≡ put_at self.old index (without_waiter thread (stored_at no_stored self.old index)) }
     {
         self.slot_mut(index).extract(thread);
     }
@@ -164,37 +152,26 @@ impl BarrierStore {
     /// The place of an index.
     fn slot(&self, index: u16) -> &Slot
         requires { IsOfGroup self.now.group index }
-        ensures { result.now ≡ stored_at self.now index }
+        ensures { result.now ≡ stored_at no_stored self.now index }
     {
-        &self.slots[key_at(&self.keys, index)]
+        self.places.at(index)
     }
 
     /// The place of an index, to be changed.
     fn slot_mut(&mut self, index: u16) -> &mut Slot
         requires { IsOfGroup self.old.group index }
         ensures* writes_back { sem 𝓛 (Lends the_row slot_row self.entry result (put_at self.entry.now index)) }
-        ensures value { result.now ≡ stored_at self.old index }
+        ensures value { result.now ≡ stored_at no_stored self.old index }
     {
-        let key = key_at(&self.keys, index);
-        &mut self.slots[key]
+        self.places.at_mut(index)
     }
 
     /// The number of the group, from 0 to 3. Its contract also tells that there are places for 64
     /// barriers, and that at each index of another group none lives.
     pub fn group(&self) -> u8
         ensures value { result ≡ self.now.group }
-        ensures store { IsStore self.now }
+        ensures store { IsStoreOf no_stored self.now }
     {
-        self.group
+        self.places.group()
     }
-}
-
-/// The key of the place of an index.
-fn key_at(keys: &Bounded<usize, PLACES>, index: u16) -> usize
-    requires low { 1 ≤ index }
-    requires high { index ≤ MOST_OBJECTS }
-    requires count { length keys.now ≡ PLACES }
-    ensures { result ≡ slice_index_or keys.now (place_of index) 0 }
-{
-    keys.as_slice()[((index - 1) / GROUPS) as usize]
 }

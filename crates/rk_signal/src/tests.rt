@@ -1,5 +1,5 @@
 ghost use Rattle.std.specs.Prelude.{◌≡◌, ◌≢◌, ◌≤◌, true};
-ghost use Rattle.rk_signal.specs.Barriers.{IsOfGroup};
+ghost use Rattle.rk_places.specs.Stores.{IsOfGroup};
 
 use crate::{BarrierStore, receive};
 use rk_model::{Caller, NoMemory, Prio, Reply, Status, ThreadIx, Wake, Wakes};

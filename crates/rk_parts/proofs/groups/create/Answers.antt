@@ -2,7 +2,8 @@ use Rattle.std.proofs.Common.{refl, sym, ap, ◌∙◌}
 use Rattle.std.specs.List.{slice_index_or}
 use Rattle.rk_model.specs.State.{BarrierState}
 use Rattle.rk_model.specs.Directives.Barriers.{new_barrier}
-use Rattle.rk_signal.specs.Barriers.{Store, barrier}
+use Rattle.rk_places.specs.Stores.{Store}
+use Rattle.rk_signal.specs.Barriers.{Stored, barrier}
 use Rattle.rk_parts.specs.declared.parts.GroupPart.{GroupPart}
 use Rattle.rk_parts.proofs.GroupLemmas.{of_group, stands_for, put_there, never_lent}
 use Rattle.rk_parts.proofs.groups.create.Goals as goal
@@ -18,7 +19,7 @@ pub returns-in-Some : goal.returns-in-Some
 returns-in-Some c =
     let group = slice_index_or c.args.groups.now c.in-Some.at c.index-groups-at.result in
     put_there c.args.groups.now c.in-Some.at c.args.index c.index-groups-at.result _ (barrier c.args.automatic c.args.most) group.wakes (new_barrier c.args.automatic c.args.most) c.requires.low c.requires.high (sym c.in-Some.ensures.place) c.in-Some.ensures.store
-    (ap (λ (s : Store). (let g : GroupPart = record group { barriers = s } in g)) c.create.ensures) refl
+    (ap (λ (s : Store Stored). (let g : GroupPart = record group { barriers = s } in g)) c.create.ensures) refl
 
 pub returns-in_default : goal.returns-in_default
 returns-in_default c = absurd (never_lent c.args.groups.now c.args.index (sym c.in_default.ensures.place) c.requires.lent)

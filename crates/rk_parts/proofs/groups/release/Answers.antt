@@ -4,7 +4,8 @@ use Rattle.rk_model.specs.declared.entry.Reply.{Reply}
 use Rattle.rk_model.specs.declared.status.Status.TheVariants.{Successful}
 use Rattle.rk_model.specs.State.{BarrierState}
 use Rattle.rk_queue.proofs.QueueLemmas.{length-threads}
-use Rattle.rk_signal.specs.Barriers.{stored_at}
+use Rattle.rk_places.specs.Stores.{stored_at}
+use Rattle.rk_signal.specs.Barriers.{no_stored}
 use Rattle.rk_parts.specs.Groups.{ended_waits}
 use Rattle.rk_parts.proofs.GroupLemmas.{of_group, stands_for, put_there, woken_there, never_live, ended_is, without_arrivals}
 use Rattle.rk_parts.proofs.groups.release.Goals as goal
@@ -23,13 +24,13 @@ returns-in-Some-clause-barrier c =
 
 pub returns-in-Some-clause-woken : goal.returns-in-Some-clause-woken
 returns-in-Some-clause-woken c =
-    let x = stored_at (slice_index_or c.args.groups.now c.in-Some.at c.index-groups-at.result).barriers c.args.index in
+    let x = stored_at no_stored (slice_index_or c.args.groups.now c.in-Some.at c.index-groups-at.result).barriers c.args.index in
     let stands = stands_for c.args.groups.now c.in-Some.at c.args.index c.index-groups-at.result c.requires.low c.requires.high c.in-Some.ensures.place in
     woken_there c.args.groups.now c.in-Some.at c.args.index c.index-groups-at.result c.release_in.new.group _ _ _ (sym c.in-Some.ensures.place) c.release_in.ensures.group (ended_is Successful x.queue.arrivals ∙ ap (λ (b : BarrierState). ended_waits Successful b.arrivals) stands)
 
 pub returns-in-Some-clause-reply : goal.returns-in-Some-clause-reply
 returns-in-Some-clause-reply c =
-    let x = stored_at (slice_index_or c.args.groups.now c.in-Some.at c.index-groups-at.result).barriers c.args.index in
+    let x = stored_at no_stored (slice_index_or c.args.groups.now c.in-Some.at c.index-groups-at.result).barriers c.args.index in
     let stands = stands_for c.args.groups.now c.in-Some.at c.args.index c.index-groups-at.result c.requires.low c.requires.high c.in-Some.ensures.place in
     c.release_in.ensures.reply ∙ ap (λ n. (let reply : Reply = record { status = Successful; out = n } in reply)) (sym (length-threads x.queue.arrivals) ∙ ap (λ (b : BarrierState). length b.arrivals) stands)
 

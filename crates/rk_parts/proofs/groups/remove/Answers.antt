@@ -2,7 +2,8 @@ use Rattle.std.proofs.Common.{refl, sym, ap, ◌∙◌}
 use Rattle.std.specs.List.{slice_index_or}
 use Rattle.rk_model.specs.declared.status.Status.TheVariants.{ObjectWasDeleted}
 use Rattle.rk_model.specs.State.{BarrierState, no_barrier}
-use Rattle.rk_signal.specs.Barriers.{no_stored, stored_at}
+use Rattle.rk_places.specs.Stores.{stored_at}
+use Rattle.rk_signal.specs.Barriers.{no_stored}
 use Rattle.rk_parts.specs.Groups.{ended_waits}
 use Rattle.rk_parts.proofs.GroupLemmas.{of_group, stands_for, put_there, woken_there, never_live, ended_is}
 use Rattle.rk_parts.proofs.groups.remove.Goals as goal
@@ -20,7 +21,7 @@ returns-in-Some-clause-barrier c =
 
 pub returns-in-Some-clause-woken : goal.returns-in-Some-clause-woken
 returns-in-Some-clause-woken c =
-    let x = stored_at (slice_index_or c.args.groups.now c.in-Some.at c.index-groups-at.result).barriers c.args.index in
+    let x = stored_at no_stored (slice_index_or c.args.groups.now c.in-Some.at c.index-groups-at.result).barriers c.args.index in
     let stands = stands_for c.args.groups.now c.in-Some.at c.args.index c.index-groups-at.result c.requires.low c.requires.high c.in-Some.ensures.place in
     woken_there c.args.groups.now c.in-Some.at c.args.index c.index-groups-at.result c.remove_in.new.group no_stored _ _ (sym c.in-Some.ensures.place) c.remove_in.ensures (ended_is ObjectWasDeleted x.queue.arrivals ∙ ap (λ (b : BarrierState). ended_waits ObjectWasDeleted b.arrivals) stands)
 

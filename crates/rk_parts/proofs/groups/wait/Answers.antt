@@ -2,7 +2,8 @@ use Rattle.std.proofs.Common.{sym, ap, ◌∙◌}
 use Rattle.std.specs.List.{slice_index_or}
 use Rattle.rk_model.specs.Lists.{has}
 use Rattle.rk_model.specs.State.{BarrierState}
-use Rattle.rk_signal.specs.Barriers.{stored_at}
+use Rattle.rk_places.specs.Stores.{stored_at}
+use Rattle.rk_signal.specs.Barriers.{no_stored}
 use Rattle.rk_parts.specs.Groups.{waited_at, woken_at, reply_at}
 use Rattle.rk_parts.proofs.GroupLemmas.{of_group, stands_for, put_there, woken_there, never_live, waited_is, woken_is, reply_is}
 use Rattle.rk_parts.proofs.groups.wait.Goals as goal
@@ -20,19 +21,19 @@ wait_in-requires-clause-absent c =
 
 pub returns-in-Some-clause-barrier : goal.returns-in-Some-clause-barrier
 returns-in-Some-clause-barrier c =
-    let x = stored_at (slice_index_or c.args.groups.now c.in-Some.at c.index-groups-at.result).barriers c.args.index in
+    let x = stored_at no_stored (slice_index_or c.args.groups.now c.in-Some.at c.index-groups-at.result).barriers c.args.index in
     let stands = stands_for c.args.groups.now c.in-Some.at c.args.index c.index-groups-at.result c.requires.low c.requires.high c.in-Some.ensures.place in
     put_there c.args.groups.now c.in-Some.at c.args.index c.index-groups-at.result c.wait_in.new.group _ _ _ c.requires.low c.requires.high (sym c.in-Some.ensures.place) c.in-Some.ensures.store c.wait_in.ensures.group (waited_is c.args.by x ∙ ap (waited_at c.args.by.thread) stands)
 
 pub returns-in-Some-clause-woken : goal.returns-in-Some-clause-woken
 returns-in-Some-clause-woken c =
-    let x = stored_at (slice_index_or c.args.groups.now c.in-Some.at c.index-groups-at.result).barriers c.args.index in
+    let x = stored_at no_stored (slice_index_or c.args.groups.now c.in-Some.at c.index-groups-at.result).barriers c.args.index in
     let stands = stands_for c.args.groups.now c.in-Some.at c.args.index c.index-groups-at.result c.requires.low c.requires.high c.in-Some.ensures.place in
     woken_there c.args.groups.now c.in-Some.at c.args.index c.index-groups-at.result c.wait_in.new.group _ _ _ (sym c.in-Some.ensures.place) c.wait_in.ensures.group (woken_is x ∙ ap woken_at stands)
 
 pub returns-in-Some-clause-reply : goal.returns-in-Some-clause-reply
 returns-in-Some-clause-reply c =
-    let x = stored_at (slice_index_or c.args.groups.now c.in-Some.at c.index-groups-at.result).barriers c.args.index in
+    let x = stored_at no_stored (slice_index_or c.args.groups.now c.in-Some.at c.index-groups-at.result).barriers c.args.index in
     c.wait_in.ensures.reply ∙ reply_is x ∙ ap reply_at (stands_for c.args.groups.now c.in-Some.at c.args.index c.index-groups-at.result c.requires.low c.requires.high c.in-Some.ensures.place)
 
 pub returns-in-None : goal.returns-in-None

@@ -1,6 +1,6 @@
 use Rattle.std.proofs.Common.{◌≡◌, true, arith}
 use Rattle.rk_model.specs.Directives.Partitions.{is_out}
-use Rattle.rk_partition.specs.PartitionPlaces.{stored_by}
+use Rattle.rk_partition.specs.PartitionSlots.{stored_by}
 use Rattle.rk_partition.proofs.BufferLemmas.{room_by, kept_by}
 use Rattle.rk_partition.proofs.slot.Slot.put_last.Goals as goal
 

@@ -1,5 +1,7 @@
-use Rattle.rk_partition.proofs.PartitionPlaceLemmas.{AreMade}
+use Rattle.std.proofs.Common.{◌≡◌}
+use Rattle.rk_model.specs.State.{no_partition}
+use Rattle.rk_places.specs.Stores.{vacant_items}
 use Rattle.rk_partition.proofs.store.PartitionStore.new.Given as goal
 
 abbrev pub invariant-loop-made : goal.invariant-loop-made
-invariant-loop-made l = AreMade l._made l.slots l.keys
+invariant-loop-made l = l.places ≡ vacant_items no_partition l.group l._made

@@ -1,14 +1,10 @@
-use Rattle.std.proofs.Common.{◌≡◌, List, ap, arith}
-use Rattle.rk_signal.specs.Barriers.{Stored, Store}
-use Rattle.rk_signal.proofs.PlaceLemmas.{AreMade, made_more, made_vacant}
+use Rattle.rk_signal.specs.Barriers.{no_stored}
+use Rattle.rk_places.proofs.PlaceLemmas.{length-vacant, vacant_more}
 use Rattle.rk_signal.proofs.store.BarrierStore.new.Goals as goal
+
+pub push-requires : goal.push-requires
+push-requires c = rw (c.loop-made.invariant, length-vacant no_stored c.loop-made._made) c.loop-made-test.true
 
 pub loop-made-preserved : goal.loop-made-preserved
 loop-made-preserved c =
-    rw c.push.ensures (made_more c.loop-made._made c.insert_reserved.result c.loop-made.slots c.insert_reserved.new.self c.loop-made.keys c.loop-made.invariant c.insert_reserved.ensures.was_vacant (rw c.in_ok-slot.ensures at c.insert_reserved.ensures.updates) c.insert_reserved.ensures.len c.insert_reserved.ensures.capacity)
-
-pub returns : goal.returns
-returns c =
-    let all : c.loop-made._made ≡ 16 = omega (arith, c.loop-made-test.false, c.loop-made.auto._made-end) in
-    let are : AreMade 16 c.loop-made.slots c.loop-made.keys = rw all at c.loop-made.invariant in
-    ap (λ (places : List Stored). (let store : Store = record { group = c.args.group; places = places } in store)) (made_vacant c.args.group c.loop-made.slots c.loop-made.keys are)
+    rw (c.push.ensures, c.in_ok-slot.ensures, c.loop-made.invariant) (vacant_more no_stored c.args.group c.loop-made._made)

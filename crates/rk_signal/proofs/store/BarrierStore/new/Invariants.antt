@@ -1,5 +1,7 @@
-use Rattle.rk_signal.proofs.PlaceLemmas.{AreMade}
+use Rattle.std.proofs.Common.{◌≡◌}
+use Rattle.rk_signal.specs.Barriers.{no_stored}
+use Rattle.rk_places.specs.Stores.{vacant_items}
 use Rattle.rk_signal.proofs.store.BarrierStore.new.Given as goal
 
 abbrev pub invariant-loop-made : goal.invariant-loop-made
-invariant-loop-made l = AreMade l._made l.slots l.keys
+invariant-loop-made l = l.places ≡ vacant_items no_stored l.group l._made

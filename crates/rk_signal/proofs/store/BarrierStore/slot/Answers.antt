@@ -1,14 +1,9 @@
-use Rattle.std.proofs.Common.{refl}
-use Rattle.rk_signal.specs.Barriers.{IsOfGroup}
-use Rattle.rk_signal.proofs.PlaceLemmas.{at_key, stored_there}
+use Rattle.rk_signal.specs.Barriers.{no_stored}
+use Rattle.rk_places.specs.Stores.{IsOfGroup}
+use Rattle.rk_places.proofs.PlaceLemmas.{stored_there}
 use Rattle.rk_signal.proofs.store.BarrierStore.slot.Goals as goal
-
-pub index-requires : goal.index-requires
-index-requires c =
-    let is : IsOfGroup c.self.inside.group c.args.index = rw (← c.self.view_is) at c.requires in
-    at_key c.self.inside.group c.self.inside.slots c.self.inside.keys c.args.index c.key_at.result c.self.invariant is c.key_at.ensures
 
 pub returns : goal.returns
 returns c =
-    let is : IsOfGroup c.self.inside.group c.args.index = rw (← c.self.view_is) at c.requires in
-    rw (← c.self.view_is, stored_there c.self.inside.group c.self.inside.slots c.self.inside.keys c.args.index c.key_at.result c.index.result.now c.self.invariant is c.key_at.ensures c.index.ensures) refl
+    let is : IsOfGroup c.self.inside.places.group c.args.index = rw (← c.self.view_is) at c.requires in
+    rw (← c.self.view_is) (stored_there no_stored c.self.inside.places c.args.index c.at.result.now c.self.invariant is c.at.ensures)

@@ -1,17 +1,12 @@
-use Rattle.std.proofs.Common.{List, refl, sym, ap}
-use Rattle.rk_signal.specs.Barriers.{Stored, Store, IsOfGroup}
-use Rattle.rk_signal.proofs.PlaceLemmas.{at_key, stored_there, put_there}
+use Rattle.std.proofs.Common.{refl}
+use Rattle.rk_signal.specs.Barriers.{no_stored}
+use Rattle.rk_places.specs.Stores.{IsOfGroup}
+use Rattle.rk_places.proofs.PlaceLemmas.{stored_there, put_there}
 use Rattle.rk_signal.proofs.store.BarrierStore.slot_mut.Goals as goal
-
-pub index_mut-requires : goal.index_mut-requires
-index_mut-requires c =
-    let is : IsOfGroup c.self.inside.group c.args.index = rw (← c.self.view_is) at c.requires in
-    at_key c.self.inside.group c.self.inside.slots c.self.inside.keys c.args.index c.key_at-key.result c.self.invariant is c.key_at-key.ensures
 
 pub returns : goal.returns
 returns c =
-    let is : IsOfGroup c.self.inside.group c.args.index = rw (← c.self.view_is) at c.requires in
-    let there = stored_there c.self.inside.group c.self.inside.slots c.self.inside.keys c.args.index c.key_at-key.result c.index_mut.result.now c.self.invariant is c.key_at-key.ensures c.index_mut.ensures.value in (
-      (refl, λ w. rw (← c.self.view_is) (ap (λ (places : List Stored). (let store : Store = record { group = c.self.inside.group; places = places } in store)) (put_there c.self.inside.group c.self.inside.slots c.self.inside.keys c.args.index c.key_at-key.result w c.self.invariant is c.key_at-key.ensures))),
-      record { writes_back = tt; value = rw (← c.self.view_is) (sym there) },
+    let is : IsOfGroup c.self.inside.places.group c.args.index = rw (← c.self.view_is) at c.requires in (
+      (refl, λ w. rw (← c.self.view_is) (put_there no_stored c.self.inside.places c.args.index w c.self.invariant is)),
+      record { writes_back = tt; value = rw (← c.self.view_is) (stored_there no_stored c.self.inside.places c.args.index c.at_mut.result.now c.self.invariant is c.at_mut.ensures.value) },
     )

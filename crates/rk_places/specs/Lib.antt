@@ -1,0 +1,2 @@
+pub mod SlabKeys
+pub mod Stores
