@@ -1,4 +1,1 @@
-pub mod ViewLemmas
 pub mod PlanLemmas
-pub mod DigitLemmas
-pub mod EndLemmas

@@ -7,13 +7,13 @@ ghost use Rattle.rk_model.specs.Text.Scenarios.{IsScenario};
 ghost use Rattle.rk_cli.specs.Texts.{why_text, refusal_text, planned, plan_text};
 ghost use Rattle.rk_cli.specs.Answers.{IsAnswer};
 
-use crate::pieces::{push_decimal, push_text};
-use crate::schedule::{ends_with_end, write_schedule};
 use rk_io::{ReadError, Source, read_all};
 use rk_kernel::run_lowest;
 use rk_model::limits::MOST_BYTES;
 use rk_model::{NoMemory, Scenario, ScenarioWhy};
 use rk_scenario::{ScenarioError, read_scenario};
+use rk_schedule::pieces::{push_decimal, push_text};
+use rk_schedule::{ends_with_end, write_schedule};
 use std::alloc::Global;
 
 /// What planning has to say.
@@ -54,7 +54,7 @@ fn write_refusal(alloc: Global, line: u32, why: ScenarioWhy) -> Result<Vec<u8>, 
 {
     let mut text = Vec::new(alloc);
     push_text(&mut text, "scenario line ")?;
-    push_decimal(&mut text, line)?;
+    push_decimal(&mut text, u64::from(line))?;
     push_text(&mut text, ": ")?;
     push_why(&mut text, why)?;
     push_text(&mut text, "\n")?;
@@ -62,6 +62,7 @@ fn write_refusal(alloc: Global, line: u32, why: ScenarioWhy) -> Result<Vec<u8>, 
 }
 
 /// The schedule of the planned history, and whether that ends with the end of the run.
+#[tactic(auto, using(rk_model::proofs::LegalityLemmas::lowest_legal))]
 fn write_plan(alloc: Global, scenario: &Scenario) -> Result<(Vec<u8>, bool), NoMemory>
     requires { IsScenario scenario.now }
     ensures text { IfOk result (λ x. x.0.items ≡ plan_text scenario.now) }

@@ -2,12 +2,9 @@
 #![tactic(auto)]
 
 mod answer;
-mod pieces;
-mod schedule;
 mod status;
 #[cfg(test)]
 mod tests;
 mod top;
 
-pub use schedule::write_schedule;
 pub use top::plain_top;

@@ -1,6 +1,7 @@
-use crate::{plain_top, write_schedule};
+use crate::plain_top;
 use rk_io::{MemSink, MemSource, SureSink, SureSource};
 use rk_scenario::read_scenario;
+use rk_schedule::write_schedule;
 use std::alloc::Global;
 use std::test::Fail;
 

@@ -2,9 +2,9 @@
 use Rattle.std.proofs.Common.{◌≡◌, ℕ, Some, None, true}
 use Rattle.rk_model.specs.State.{Plain, thread_at, op_at}
 use Rattle.rk_model.specs.Scheduling.Running.{caller}
-use Rattle.rk_kernel.specs.Sound.{IsSound, has_action}
+use Rattle.rk_directives.specs.Sound.{IsSound, has_action}
 use Rattle.rk_kernel.specs.SchedulingLaws.{NoneActsAtWork}
-use Rattle.rk_kernel.proofs.ThreadBoundsLemmas.{bounds_at}
+use Rattle.rk_directives.proofs.ThreadBoundsLemmas.{bounds_at}
 use Rattle.rk_kernel.proofs.CallerLemmas.{caller_works_not}
 use Rattle.rk_kernel.proofs.HistoryLemmas.{sound_after}
 

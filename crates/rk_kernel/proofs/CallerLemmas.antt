@@ -12,8 +12,8 @@ use Rattle.rk_model.specs.State.{Plain, ClusterState, thread_at}
 use Rattle.rk_model.specs.Scheduling.Priorities.{is_started, is_no_wait, spins, is_eligible}
 use Rattle.rk_model.specs.Scheduling.ReadyQueues.{has_cpu}
 use Rattle.rk_model.specs.Scheduling.Running.{all_cpus, cpu_at, view_of, ready, caller}
-use Rattle.rk_kernel.specs.Calls.{IsActing}
-use Rattle.rk_kernel.specs.Sound.{stands, own, AllSound, IsSound}
+use Rattle.rk_directives.specs.Calls.{IsActing}
+use Rattle.rk_directives.specs.Sound.{stands, own, AllSound, IsSound}
 use Rattle.rk_model.proofs.BooleanLemmas.{equal_test, and_front, and_back, either, or_front, or_back}
 use Rattle.rk_model.proofs.CountLemmas.{times-filter, times-has, times_range}
 

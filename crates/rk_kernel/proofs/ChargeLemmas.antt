@@ -22,9 +22,9 @@ use Rattle.rk_parts.specs.declared.parts.AllParts.{AllParts}
 use Rattle.rk_parts.specs.Joined.{plain_of, threads_of, thread_lent}
 use Rattle.rk_parts.specs.Lent.{AreLaid, Frame, frame, layouts}
 use Rattle.rk_parts.specs.Noted.{AreNoted}
-use Rattle.rk_kernel.specs.Does.{Untouched, untouched}
+use Rattle.rk_directives.specs.Does.{Untouched, untouched}
 use Rattle.rk_kernel.specs.Manned.{RunOnce}
-use Rattle.rk_kernel.specs.Sound.{IsSound}
+use Rattle.rk_directives.specs.Sound.{IsSound}
 use Rattle.rk_kernel.proofs.CallerLemmas.{seated_eligible}
 use Rattle.rk_kernel.proofs.TickLemmas.{spins_alike, charged_steady, length-charge_from}
 

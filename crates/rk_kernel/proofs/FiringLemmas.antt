@@ -1,7 +1,7 @@
 -- Timers that are due fire one after another, and each firing keeps a state sound.
-use Rattle.std.proofs.Common.{◌≡◌, ℕ, suc, ◌+◌, ◌<◌, ◌≤◌, List, [], ◌∷◌, Bool, true, false, cond, eqb, not, Option, None, Some, length, map, get_or, arith, refl, ap, sym, ◌∙◌, subst, ⊎_elim}
+use Rattle.std.proofs.Common.{◌≡◌, ℕ, suc, ◌+◌, ◌<◌, ◌≤◌, List, [], ◌∷◌, Bool, true, false, cond, eqb, Option, None, Some, length, map, get_or, arith, refl, ap, sym, ◌∙◌, subst, ⊎_elim}
 use Rattle.std.specs.List.{slice_set}
-use Rattle.std.proofs.lemmas.List.{set-get_or, get_or-set_same, get_or_past, ext_get_or, length-map}
+use Rattle.std.proofs.lemmas.List.{set-get_or, get_or_past, ext_get_or, length-map}
 use Rattle.std.proofs.lemmas.Bool.{false≢true, cases_lt}
 use Rattle.std.proofs.lemmas.Bool.Decides.{nat_tests}
 use Rattle.rk_model.specs.declared.entry.Reply.{Reply}
@@ -11,35 +11,43 @@ use Rattle.rk_model.specs.declared.state.Armer.{Armer}
 use Rattle.rk_model.specs.declared.state.Armer.TheVariants.{Thread as OfThread, Period as OfPeriod}
 use Rattle.rk_model.specs.declared.state.Thread.{Thread}
 use Rattle.rk_model.specs.Lists.{nth}
-use Rattle.rk_model.specs.State.{Plain, ClusterState, no_cluster, no_thread, thread_at, cluster_at}
+use Rattle.rk_model.specs.State.{Plain, ClusterState, no_cluster, no_thread, thread_at, period_at, cluster_at}
 use Rattle.rk_model.specs.Directives.Objects.{has_begun}
 use Rattle.rk_model.specs.Scheduling.Priorities.{standings}
 use Rattle.rk_parts.proofs.SettlingLemmas.{settle_each}
-use Rattle.rk_model.specs.Scheduling.Timers.{is_same, times_armed, without_timer, due_at, head_of, is_due, without_due, take_due, cancel}
+use Rattle.rk_model.specs.Scheduling.Timers.{is_same, times_armed, due_at, head_of, is_due, without_due, take_due}
 use Rattle.rk_model.specs.Scheduling.Ticks.{rung, expire, fire, fire_each}
-use Rattle.rk_model.specs.Directives.Waits.{end_wait, leave, reply_at_timer}
+use Rattle.rk_model.specs.Directives.Periods.{end_passed}
+use Rattle.rk_model.specs.Directives.Waits.{end_wait, reply_at_timer}
+use Rattle.rk_model.specs.declared.state.Wait.{Wait}
+use Rattle.rk_model.specs.declared.state.Wait.TheVariants.{ForTime, ForEvents, AtBarrier, ForPeriod}
 use Rattle.rk_parts.specs.declared.parts.ClusterPart.{ClusterPart}
 use Rattle.rk_parts.specs.declared.parts.GroupPart.{GroupPart}
 use Rattle.rk_parts.specs.declared.parts.AllParts.{AllParts}
 use Rattle.rk_parts.specs.Threads.{own_standing}
-use Rattle.rk_parts.specs.Joined.{joined, placed_in, lives_in, numbered, present_of, threads_of, plain_of, thread_lent}
+use Rattle.rk_parts.specs.Joined.{joined, placed_in, lives_in, numbered, present_of, threads_of, plain_of, thread_lent, timers_lent}
 use Rattle.rk_parts.specs.Lent.{found_in, AreLaid, Layout, layout, layouts, layout_at, lives_at, Stored, stored_in, Frame, frame, TakesDue}
 use Rattle.rk_parts.specs.Noted.{no_part, part_at, key_of, IsKeyed, AreNoted, settled_part, bare}
 use Rattle.rk_parts.specs.Firing.{due_now, FiresFirst}
 use Rattle.rk_parts.proofs.HeldLemmas.{held_found, found_lives, nowhere_lives}
 use Rattle.rk_parts.proofs.LayoutLemmas.{Lie, lie, lives_is}
-use Rattle.rk_parts.proofs.LentTimerLemmas.{numbered_found, cluster_numbered}
+use Rattle.rk_parts.proofs.LentTimerLemmas.{numbered_found, cluster_numbered, timers_home}
 use Rattle.rk_parts.proofs.SettledPartLemmas.{thread_any, same_stored}
-use Rattle.rk_kernel.specs.Does.{BecomesBoth, HasLife}
+use Rattle.rk_directives.specs.Does.{BecomesBoth, MayRing}
 use Rattle.rk_kernel.specs.Ready.{IsReady}
-use Rattle.rk_kernel.specs.Sound.{IsSound, IsGentleBut, IsGentle, but_none, but_one, waits_in, is_waiting, is_in_call}
+use Rattle.rk_directives.specs.Sound.{IsSound, CanSettle, but_one, waits_in, may_time_out, is_in_call}
+use Rattle.rk_directives.specs.SoundPeriods.{awaits, dues_of, KeepsPeriods}
 use Rattle.rk_model.proofs.BooleanLemmas.{equal_test, and_front, and_back}
-use Rattle.rk_kernel.proofs.ThreadBoundsLemmas.{bounds_at}
-use Rattle.rk_kernel.proofs.GentleChangeLemmas.{gentle_same, gentle_but, gentle_fewer, in_call_begun, waits_calls, gentle_end_wait}
+use Rattle.rk_directives.proofs.ThreadBoundsLemmas.{bounds_at}
+use Rattle.rk_directives.proofs.GentleChangeLemmas.{gentle_same, gentle_but, in_call_begun, limited_waits, waits_calls, gentle_end_wait}
+use Rattle.rk_directives.proofs.PeriodSoundLemmas.{fits_pass, times-dues, live_within}
+use Rattle.rk_directives.proofs.PeriodsKeptLemmas.{kept_sound, keeps_then, keeps_taken, keeps_end_wait}
+use Rattle.rk_kernel.proofs.PeriodEndLemmas.{taken_timers, ended_clusters, gentle_taken, passes, passed_left, passed_present, passed_settles}
+use Rattle.rk_directives.proofs.DirectiveLemmas.TasksLemmas.{lives_within}
+use Rattle.rk_period.specs.Periods.{Fits}
 use Rattle.rk_kernel.proofs.SoundSettlingLemmas.{timers-settled_from}
-use Rattle.rk_kernel.proofs.TieLemmas.{times-taken}
 use Rattle.rk_kernel.proofs.PartsSettledLemmas.{part_found, count_clusters, whole_kept, AreSettled, settled}
-use Rattle.rk_kernel.proofs.TimerLemmas.{timers_of, times-without_due}
+use Rattle.rk_directives.proofs.TimerLemmas.{timers_of}
 
 no_due : (tick : ℕ) (timers : List Armed) → due_at tick timers ≡ [] → without_due tick timers ≡ timers
 no_due tick [] none = refl
@@ -75,23 +83,10 @@ one_gone tick t (timer ∷ timers) xs x whose due = by (is_due tick timer) due (
       rw test (omega arith)
   by false due more = omega (arith, more due)
 
--- to cancel the timer of one that has none changes nothing
-without_none : (who : Armer) (timers : List Armed) → times_armed who timers ≡ 0 → without_timer who timers ≡ timers
-without_none who [] none = refl
-without_none who (timer ∷ timers) none = by (is_same timer.who who) none (without_none who timers) where
-  by : (b : Bool) → cond b 1 0 + times_armed who timers ≡ 0 → (times_armed who timers ≡ 0 → without_timer who timers ≡ timers) → cond (not b) (timer ∷ without_timer who timers) (without_timer who timers) ≡ timer ∷ timers
-  by true none more = absurd (omega (arith, none))
-  by false none more = ap (λ ts. timer ∷ ts) (more (omega (arith, none)))
-
-cancel_none : (k : Plain) (c : ℕ) (who : Armer) → times_armed who (cluster_at k c).timers ≡ 0 → cancel k c who ≡ k
-cancel_none k c who none =
-    ap (λ (ts : List Armed). record k { clusters = slice_set k.clusters c (record (cluster_at k c) { timers = ts }) }) (without_none who (cluster_at k c).timers none)
-    ∙ ap (λ (cs : List ClusterState). record k { clusters = cs }) (set-get_or k.clusters c no_cluster)
-
 -- a thread whose timer fires: it waits in that cluster, and has no other timer there
 record Fires (k : Plain) (c t : ℕ) : Type 0 where
   home : (thread_at k t).home ≡ c
-  waits : is_waiting (thread_at k t).wait ≡ true
+  waits : may_time_out (thread_at k t).wait ≡ true
   alone : times_armed (OfThread t) (without_due k.present (cluster_at k c).timers) ≡ 0
 
 fires_by : (n m : ℕ) (b : Bool) → n + 1 ≡ m → m ≤ cond b 1 0 → (b ≡ true) × (n ≡ 0)
@@ -101,47 +96,60 @@ fires_by n m false e few = absurd (omega (arith, e, few))
 fires : (k : Plain) (c t : ℕ) (xs : List Armed) (x : Armed) → IsSound k → c < length k.clusters → due_now k c ≡ x ∷ xs → x.who ≡ OfThread t → Fires k c t
 fires k c t xs x sound within due whose =
     let f = fires_by _ _ (waits_in k.threads c t) (one_gone k.present t (cluster_at k c).timers xs x whose due) (timers_of k c sound within t) in
-    let at_home = and_front (eqb (thread_at k t).home c) (is_waiting (thread_at k t).wait) f.0 in
-    record { home = grind (arith, nat_tests, at_home); waits = and_back (eqb (thread_at k t).home c) (is_waiting (thread_at k t).wait) f.0; alone = f.1 }
+    let at_home = and_front (eqb (thread_at k t).home c) (may_time_out (thread_at k t).wait) f.0 in
+    record { home = grind (arith, nat_tests, at_home); waits = and_back (eqb (thread_at k t).home c) (may_time_out (thread_at k t).wait) f.0; alone = f.1 }
 
-taken_timers : (k : Plain) (c : ℕ) → c < length k.clusters → (cluster_at (take_due k c) c).timers ≡ without_due k.present (cluster_at k c).timers
-taken_timers k c within = ap (λ (y : ClusterState). y.timers) (get_or-set_same k.clusters c (record (cluster_at k c) { timers = without_due k.present (cluster_at k c).timers }) no_cluster within)
-
--- a timer that fires has been taken out, and its cluster has no others than before
-rung_clusters : (k : Plain) (c : ℕ) (xs : List Armed) (x : Armed) (who : Armer) → x.who ≡ who → IsSound k → c < length k.clusters → due_now k c ≡ x ∷ xs → (rung (take_due k c) who).clusters ≡ (take_due k c).clusters
-rung_clusters k c xs x (OfThread t) whose sound within due =
+-- After the first timer that is due has fired, the same are due as without it,
+fired_left : (k : Plain) (c : ℕ) (xs : List Armed) (x : Armed) (who : Armer) → x.who ≡ who → IsSound k → c < length k.clusters → due_now k c ≡ x ∷ xs → due_at k.present (cluster_at (rung (take_due k c) who) c).timers ≡ due_at k.present (without_due k.present (cluster_at k c).timers)
+fired_left k c xs x (OfThread t) whose sound within due =
     let f = fires k c t xs x sound within due whose in
     let m = take_due k c in
     let none : times_armed (OfThread t) (cluster_at m (thread_at k t).home).timers ≡ 0 = ap (λ d. times_armed (OfThread t) (cluster_at m d).timers) f.home ∙ ap (times_armed (OfThread t)) (taken_timers k c within) ∙ f.alone in
-    ap (λ (n : Plain). n.clusters) (cancel_none (leave m t) (thread_at k t).home (OfThread t) none)
-rung_clusters k c xs x (OfPeriod i) whose sound within due = refl
+    ap (λ (cs : List ClusterState). due_at k.present (get_or cs c no_cluster).timers) (ended_clusters m t (reply_at_timer (thread_at m t).wait) none) ∙ ap (due_at k.present) (taken_timers k c within)
+fired_left k c xs x (OfPeriod i) whose sound within due = passed_left k c i xs x sound within due whose
 
--- After the first timer that is due has fired, the others are due.
+-- and those are the others.
 pub due_now-fire : (k : Plain) (c : ℕ) (xs : List Armed) (x : Armed) → IsSound k → c < length k.clusters → due_now k c ≡ x ∷ xs → due_now (fire k c x) c ≡ xs
 due_now-fire k c xs x sound within due =
     let next = expire k c x.who in
     let settled : (cluster_at (fire k c x) c).timers ≡ (cluster_at next c).timers = ap (λ (n : Plain). (cluster_at n c).timers) (settle_each (standings k) next []) ∙ timers-settled_from _ _ (length next.threads) 0 next.clusters c in
-    let here : (cluster_at next c).timers ≡ without_due k.present (cluster_at k c).timers = ap (λ (cs : List ClusterState). (get_or cs c no_cluster).timers) (rung_clusters k c xs x x.who refl sound within due) ∙ taken_timers k c within in
-    ap (due_at (fire k c x).present) (settled ∙ here) ∙ ap (λ n. due_at n (without_due k.present (cluster_at k c).timers)) (rung_present (take_due k c) x.who) ∙ rest_due k.present (cluster_at k c).timers xs x due
+    let present : (fire k c x).present ≡ k.present = ap (λ (n : Plain). n.present) (settle_each (standings k) next []) ∙ rung_present (take_due k c) x.who in
+    ap (due_at (fire k c x).present) settled ∙ ap (λ n. due_at n (cluster_at next c).timers) present ∙ fired_left k c xs x x.who refl sound within due ∙ rest_due k.present (cluster_at k c).timers xs x due
   where
     rung_present : (m : Plain) (who : Armer) → (rung m who).present ≡ m.present
     rung_present m (OfThread t) = refl
-    rung_present m (OfPeriod i) = refl
+    rung_present m (OfPeriod i) = passed_present m i (period_at m i).phase
+
+-- what may have a limit is no wait for a period
+awaits_none : (wait : Option Wait) → may_time_out wait ≡ true → awaits wait ≡ None
+awaits_none None h = refl
+awaits_none (Some ForTime) h = refl
+awaits_none (Some (ForEvents set all)) h = refl
+awaits_none (Some (AtBarrier i)) h = refl
+awaits_none (Some (ForPeriod i)) h = absurd (false≢true h)
+
+-- a timer of a thread that fires leaves periods alone
+pub keeps_expired : (k : Plain) (c t : ℕ) (xs : List Armed) (x : Armed) → IsSound k → c < length k.clusters → due_now k c ≡ x ∷ xs → x.who ≡ OfThread t → KeepsPeriods k (expire k c (OfThread t))
+keeps_expired k c t xs x sound within due whose =
+    let m = take_due k c in
+    let limited = (fires k c t xs x sound within due whose).waits in
+    keeps_then k m (expire k c (OfThread t)) (keeps_taken k c t x xs whose due) (keeps_end_wait m t (reply_at_timer (thread_at k t).wait) (awaits_none (thread_at k t).wait limited))
 
 -- A timer that fires changes little.
-pub expire_gentle : (k : Plain) (c : ℕ) (xs : List Armed) (x : Armed) → IsSound k → c < length k.clusters → due_now k c ≡ x ∷ xs → IsGentle k (expire k c x.who)
-expire_gentle k c xs x sound within due = by x.who refl where
-  taken : (but : ℕ → Bool) → ((u : ℕ) → but u ≡ false → is_same x.who (OfThread u) ≡ false) → IsGentleBut k k but → IsGentleBut k (take_due k c) but
-  taken but apart gentle =
-      let timers = (cluster_at k c).timers in
-      gentle_fewer k k but c (without_due k.present timers) gentle (λ u. times-without_due k.present u timers) (λ u other. times-taken k.present u timers xs x (apart u other) due)
-
-  by : (who : Armer) → x.who ≡ who → IsGentle k (rung (take_due k c) who)
-  by (OfPeriod i) whose = taken but_none (λ u _. ap (λ w. is_same w (OfThread u)) whose) (gentle_same k sound)
+pub expire_settles : (k : Plain) (c : ℕ) (xs : List Armed) (x : Armed) → IsSound k → c < length k.clusters → due_now k c ≡ x ∷ xs → CanSettle k (expire k c x.who)
+expire_settles k c xs x sound within due = by x.who refl where
+  by : (who : Armer) → x.who ≡ who → CanSettle k (rung (take_due k c) who)
+  by (OfPeriod i) whose = passed_settles k c i xs x sound within due whose
   by (OfThread t) whose =
-      gentle_end_wait k (take_due k c) t _ sound
-      (taken (but_one t) (λ u other. ap (λ w. is_same w (OfThread u)) whose ∙ grind (arith, nat_tests, other)) (gentle_but k k t (gentle_same k sound)))
-      (sound.tied.queued t refl) (fires k c t xs x sound within due whose).waits
+      let m = take_due k c in
+      let reply = reply_at_timer (thread_at k t).wait in
+      let limited = (fires k c t xs x sound within due whose).waits in
+      record {
+        gentle = gentle_end_wait k m t reply sound
+            (gentle_taken k c xs x (but_one t) due (λ u other. ap (λ w. is_same w (OfThread u)) whose ∙ grind (arith, nat_tests, other)) (gentle_but k k t (gentle_same k sound)))
+            (sound.tied.queued t refl) (limited_waits (thread_at k t).wait limited);
+        periods = kept_sound k (end_wait m t reply) sound.named.idle sound.periods (keeps_expired k c t xs x sound within due whose);
+      }
 
 -- the timers behind the first
 abbrev pub rest_of : List Armed → List Armed
@@ -183,19 +191,57 @@ due_lent all c ready known =
 lives_due : (k : Plain) (c t : ℕ) (xs : List Armed) (x : Armed) → IsSound k → c < length k.clusters → due_now k c ≡ x ∷ xs → x.who ≡ OfThread t → has_begun (thread_at k t).life ≡ true
 lives_due k c t xs x sound within due whose =
     let thread = thread_at k t in
-    in_call_begun thread.life (is_in_call thread.wait thread.finished) (waits_calls thread.wait thread.finished (fires k c t xs x sound within due whose).waits) (bounds_at k t sound).idle
+    in_call_begun thread.life (is_in_call thread.wait thread.finished) (waits_calls thread.wait thread.finished (limited_waits thread.wait (fires k c t xs x sound within due whose).waits)) (bounds_at k t sound).idle
 
 within_clusters : (all : AllParts) (c : ℕ) → c < length all.scenario.clusters → c < length (plain_of all).clusters
 within_clusters all c known = omega (arith, count_clusters all, known)
 
-pub due_lives : (all : AllParts) (taken : List ClusterPart) (c : ℕ) (x : Armed) → IsReady all → c < length all.scenario.clusters → Some x ≡ head_of (due_now (plain_of all) c) → TakesDue all.clusters c taken → HasLife taken x.who
-due_lives all taken c x ready known some takes = by x.who refl where
-  by : (who : Armer) → x.who ≡ who → HasLife taken who
-  by (OfPeriod i) whose = tt
-  by (OfThread t) whose =
-      let k = plain_of all in
-      let same : threads_of taken ≡ k.threads = ap (λ (n : Plain). n.threads) (takes.state all.scenario all.table.names all.groups known) in
-      ap (λ (ts : List Thread). has_begun (nth no_thread ts t).life) same ∙ lives_due k c t (rest_of (due_now k c)) x ready.sound (within_clusters all c known) (head_some (due_now k c) x some) whose
+-- A timer that was taken out may fire.
+pub due_rings : (all : AllParts) (taken : List ClusterPart) (c : ℕ) (x : Armed) → IsReady all → c < length all.scenario.clusters → Some x ≡ head_of (due_now (plain_of all) c) → TakesDue all.clusters c taken → MayRing taken all.groups x.who
+due_rings all taken c x ready known some takes = by x.who refl where
+  k : Plain
+  k = plain_of all
+
+  state : joined all.scenario all.table.names taken all.groups ≡ take_due k c
+  state = takes.state all.scenario all.table.names all.groups known
+
+  same : threads_of taken ≡ k.threads
+  same = ap (λ (n : Plain). n.threads) state
+
+  thread : (t : ℕ) → thread_lent taken t ≡ thread_at k t
+  thread t = ap (λ (ts : List Thread). nth no_thread ts t) same
+
+  due : due_now k c ≡ x ∷ rest_of (due_now k c)
+  due = head_some (due_now k c) x some
+
+  laid : AreLaid all.scenario.clusters (layouts taken)
+  laid = subst (AreLaid all.scenario.clusters) (sym (ap (λ (f : Frame). f.layouts) takes.kept)) ready.whole.laid
+
+  by : (who : Armer) → x.who ≡ who → MayRing taken all.groups who
+  by (OfThread t) whose = ap (λ (y : Thread). has_begun y.life) (thread t) ∙ lives_due k c t (rest_of (due_now k c)) x ready.sound (within_clusters all c known) due whose
+  by (OfPeriod i) whose =
+      let p = passes k c i (rest_of (due_now k c)) x ready.sound due whose in
+      let t = (period_at k i).creator in
+      let w = live_within k.periods i ready.sound.periods.places p.live in
+      let lives = ap (λ (y : Thread). has_begun y.life) (thread t) ∙ p.lives in
+      let present : present_of taken ≡ k.present = ap (λ (n : Plain). n.present) state in
+      let seat = lives_within k.threads t p.lives in
+      let timers : timers_lent taken t ≡ (cluster_at (take_due k c) c).timers =
+      timers_home all.scenario all.table.names all.groups taken t (omega (arith, seat.0)) (omega (arith, seat.1, ready.sound.places)) laid lives
+      ∙ ap (λ (n : Plain). (cluster_at n (thread_lent taken t).home).timers) state
+      ∙ ap (λ (y : Thread). (cluster_at (take_due k c) y.home).timers) (thread t)
+      ∙ ap (λ d. (cluster_at (take_due k c) d).timers) p.home in
+      let none : dues_of (OfPeriod i) (timers_lent taken t) ≡ [] = ap (dues_of (OfPeriod i)) (timers ∙ taken_timers k c (within_clusters all c known)) ∙ p.alone in
+      let fits = fits_pass k.present (thread_at k t).computed (period_at k i) (omega (arith, ready.sound.present, ready.sound.horizon)) (bounds_at k t ready.sound).computed p.ends (ready.sound.periods.each i).counted in
+      record {
+        low = omega (arith, w.0);
+        high = w.1;
+        live = p.live;
+        lives = lives;
+        due = p.ends ∙ ap (λ n. Some n) (sym present);
+        fits = subst (λ (y : Thread). Fits (present_of taken) y.computed (period_at k i)) (sym (thread t)) (subst (λ n. Fits n (thread_at k t).computed (period_at k i)) (sym present) fits);
+        unarmed = times-dues (OfPeriod i) (timers_lent taken t) ∙ ap (λ (ds : List ℕ). length ds) none;
+      }
 
 -- A timer rings in lent parts where the wait of its thread ends.
 pub rings : (before after : List ClusterPart) (groups groups' : List GroupPart) (who : Armer) (t : ℕ) (thread : Thread) (reply : Reply) → who ≡ OfThread t → thread ≡ thread_lent before t → reply ≡ reply_at_timer thread.wait →
@@ -209,12 +255,12 @@ rings before after groups groups' who t thread reply whose is so_far ends s =
       framed = (ends s).framed;
     }
 
--- Of a period nothing rings.
-pub silent : (parts : List ClusterPart) (groups : List GroupPart) (who : Armer) (i : ℕ) → who ≡ OfPeriod i → (s : Scenario) → BecomesBoth s (λ k. rung k who) parts groups parts groups
-silent parts groups who i whose s = record {
-  state = λ table laid. ap (rung (joined s table parts groups)) (sym whose);
-  kept = refl;
-  framed = refl;
+-- A period's timer rings where its end passes.
+pub rings_end : (before after : List ClusterPart) (groups groups' : List GroupPart) (who : Armer) (i : ℕ) → who ≡ OfPeriod i → ((s : Scenario) → BecomesBoth s (λ k. end_passed k i) before groups after groups') → (s : Scenario) → BecomesBoth s (λ k. rung k who) before groups after groups'
+rings_end before after groups groups' who i whose passes s = record {
+  state = λ table laid. (passes s).state table laid ∙ ap (rung (joined s table before groups)) (sym whose);
+  kept = (passes s).kept;
+  framed = (passes s).framed;
 }
 
 -- a thread that lives in a part is the one that all of them hold
@@ -282,7 +328,7 @@ fired all taken after new groups c x ready known some takes rings done =
     let laid : AreLaid all.scenario.clusters (layouts taken) = subst (AreLaid all.scenario.clusters) (sym (ap (λ (f : Frame). f.layouts) takes.kept)) ready.whole.laid in
     settled all mid new (expire k c x.who) [] ready
     (record {
-      gentle = expire_gentle k c (rest_of (due_now k c)) x ready.sound (within_clusters all c known) (head_some (due_now k c) x some);
+      settles = expire_settles k c (rest_of (due_now k c)) x ready.sound (within_clusters all c known) (head_some (due_now k c) x some);
       state = expired k (plain_of (record all { clusters = taken })) (plain_of mid) c x (takes.state all.scenario all.table.names all.groups known) (rings.state all.table.names laid);
       laid = subst (AreLaid all.scenario.clusters) (sym (ap (λ (f : Frame). f.layouts) rings.kept)) laid;
       kept = ap (λ (f : Frame). f.stored) (rings.kept ∙ takes.kept);

@@ -15,15 +15,15 @@ use Rattle.rk_model.specs.Limits.{IsWithinLimits}
 use Rattle.rk_model.specs.Text.Scenarios.{IsScenario}
 use Rattle.rk_model.proofs.LimitLemmas.{limits_of}
 use Rattle.rk_parts.specs.Firing.{due_now}
-use Rattle.rk_kernel.specs.Sound.{IsSound, IsGentle}
+use Rattle.rk_directives.specs.Sound.{IsSound, IsGentle, CanSettle}
 use Rattle.rk_kernel.proofs.CallerLemmas.{acting_of}
-use Rattle.rk_kernel.proofs.DirectiveLemmas.ActionLemmas.{action_done}
+use Rattle.rk_directives.proofs.DirectiveLemmas.ActionLemmas.{action_done}
 use Rattle.std.specs.Option.{option_to_list}
 use Rattle.rk_model.specs.Directives.Outcomes.{answer_of, after_outcome, last_of}
 use Rattle.rk_kernel.proofs.SoundSettlingLemmas.{sound_settled, length-kept, length-settled}
 use Rattle.rk_kernel.proofs.TickLemmas.{sound_pass}
-use Rattle.rk_kernel.proofs.FiringLemmas.{expire_gentle, due_now-fire}
-use Rattle.rk_kernel.proofs.OpeningLemmas.{sound_vacant, gentle_started}
+use Rattle.rk_kernel.proofs.FiringLemmas.{expire_settles, due_now-fire}
+use Rattle.rk_kernel.proofs.OpeningLemmas.{sound_vacant, started_settles}
 
 -- What each settling after a gentle change of a sound state keeps, and each passing of a tick.
 pub record IsKept (P : Plain → Type 0) : Type 0 where
@@ -34,8 +34,8 @@ pub record IsKept (P : Plain → Type 0) : Type 0 where
 abbrev pub Both : (Plain → Type 0) → Plain → Type 0
 Both P k = IsSound k × P k
 
-both_settled : (P : Plain → Type 0) → IsKept P → (k next : Plain) (last : List ℕ) → IsGentle k next → Both P k → Both P (settle k next last)
-both_settled P kept k next last gentle both = (sound_settled k next last both.0 gentle, kept.settled k next last both.0 gentle both.1)
+both_settled : (P : Plain → Type 0) → IsKept P → (k next : Plain) (last : List ℕ) → CanSettle k next → Both P k → Both P (settle k next last)
+both_settled P kept k next last can both = (sound_settled k next last both.0 can, kept.settled k next last both.0 can.gentle both.1)
 
 count-settled : (k next : Plain) (last : List ℕ) → IsGentle k next → length (settle k next last).clusters ≡ length k.clusters
 count-settled k next last gentle = length-settled k next last ∙ length-kept k.clusters next.clusters gentle.lines
@@ -44,9 +44,9 @@ count-settled k next last gentle = length-settled k next last ∙ length-kept k.
 both_each : (P : Plain → Type 0) → IsKept P → (k : Plain) (c : ℕ) (timers : List Armed) → due_now k c ≡ timers → c < length k.clusters → Both P k → Both P (fire_each k c timers) × (length (fire_each k c timers).clusters ≡ length k.clusters)
 both_each P kept k c [] due within both = (both, refl)
 both_each P kept k c (x ∷ xs) due within both =
-    let gentle = expire_gentle k c xs x both.0 within due in
-    let same = count-settled k (expire k c x.who) [] gentle in
-    let more = both_each P kept (fire k c x) c xs (due_now-fire k c xs x both.0 within due) (rw same within) (both_settled P kept k (expire k c x.who) [] gentle both) in
+    let can = expire_settles k c xs x both.0 within due in
+    let same = count-settled k (expire k c x.who) [] can.gentle in
+    let more = both_each P kept (fire k c x) c xs (due_now-fire k c xs x both.0 within due) (rw same within) (both_settled P kept k (expire k c x.who) [] can both) in
     (more.0, more.1 ∙ same)
 
 both_from : (P : Plain → Type 0) → IsKept P → (k : Plain) (c n : ℕ) → c + n ≤ length k.clusters → Both P k → Both P (fire_from k c n)
@@ -111,7 +111,7 @@ both_after P kept k (x ∷ xs) both = both_after P kept (next_by k x) xs (both_n
 
 -- and at opening, where it holds where there is no task yet
 pub kept_opening : (P : Plain → Type 0) → IsKept P → (s : Scenario) → IsWithinLimits s → P (vacant s) → Both P (opening s)
-kept_opening P kept s within begins = both_settled P kept (vacant s) (started s) [] (gentle_started s within) (sound_vacant s within, begins)
+kept_opening P kept s within begins = both_settled P kept (vacant s) (started s) [] (started_settles s within) (sound_vacant s within, begins)
 
 -- What is kept, and holds where there is no task yet, holds after each history.
 pub kept_after : (P : Plain → Type 0) → IsKept P → (s : Scenario) (xs : List Entry) → IsScenario s → P (vacant s) → Both P (after s xs)

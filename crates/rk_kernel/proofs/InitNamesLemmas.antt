@@ -11,7 +11,7 @@ use Rattle.rk_model.specs.Lists.{nth, times}
 use Rattle.rk_model.specs.declared.ids.Class.{Class}
 use Rattle.rk_model.specs.declared.ids.Class.TheVariants.{Task, Semaphore, Partition, Period, Barrier}
 use Rattle.rk_model.specs.Names.{Names, Table, names_of, with_names, no_objects, indices, taken}
-use Rattle.rk_model.specs.State.{BarrierState, Objects, PartitionState, no_barrier, no_partition, no_thread}
+use Rattle.rk_model.specs.State.{BarrierState, Objects, PartitionState, PeriodState, no_barrier, no_partition, no_period, no_thread}
 use Rattle.rk_model.specs.Directives.Objects.{has_begun, begun_in}
 use Rattle.rk_model.specs.Histories.{begun, places, named_from, begun_names}
 use Rattle.rk_ids.specs.LiveObjects.{IsSplit}
@@ -82,12 +82,20 @@ none_divided : (i : ℕ) → nth no_partition (replicate 64 no_partition) i ≡ 
 none_divided zero = refl
 none_divided (suc i) = no_pool 64 i
 
+pub none_timed : (i : ℕ) → nth no_period (replicate 64 no_period) i ≡ no_period
+none_timed zero = refl
+none_timed (suc i) = no_place_of 64 i where
+  no_place_of : (n i : ℕ) → get_or (replicate n no_period) i no_period ≡ no_period
+  no_place_of zero i = refl
+  no_place_of (suc n) zero = refl
+  no_place_of (suc n) (suc i) = no_place_of n i
+
 -- the objects where these tasks alone have begun
 abbrev pub begun_objects : Scenario → List Init → Objects
-begun_objects s inits = record { threads = places 64 (map (begun s) inits); barriers = replicate 64 no_barrier; partitions = replicate 64 no_partition }
+begun_objects s inits = record { threads = places 64 (map (begun s) inits); barriers = replicate 64 no_barrier; partitions = replicate 64 no_partition; periods = replicate 64 no_period }
 
 pub named_begun : (s : Scenario) (inits : List Init) → length inits ≤ 64 → AreNamed (begun_table inits) (begun_objects s inits)
-named_begun s inits few = record { class = class; blank = blank; bare = λ i _. none_stands i; unused = λ i _. none_divided i } where
+named_begun s inits few = record { class = class; blank = blank; bare = λ i _. none_stands i; unused = λ i _. none_divided i; idle = λ i _. none_timed i } where
   nothing : (t : ℕ) → times t (indices (begun_table []).semaphores.live) ≡ 0
   nothing t = refl
 
@@ -95,7 +103,7 @@ named_begun s inits few = record { class = class; blank = blank; bare = λ i _. 
   class Task = record { split = split_begun inits few; live = λ t. ap (times t) (indices_from 1 inits) ∙ live_begun s 64 inits t few }
   class Semaphore = record { split = split_none; live = nothing }
   class Partition = record { split = split_none; live = λ t. ap (λ (x : PartitionState). cond x.live 1 0) (sym (none_divided t)) }
-  class Period = record { split = split_none; live = nothing }
+  class Period = record { split = split_none; live = λ t. ap (λ (x : PeriodState). cond x.live 1 0) (sym (none_timed t)) }
   class Barrier = record { split = split_none; live = λ t. ap (λ (x : BarrierState). cond x.live 1 0) (sym (none_stands t)) }
 
   blank : (t : ℕ) → has_begun (nth no_thread (places 64 (map (begun s) inits)) t).life ≡ false → nth no_thread (places 64 (map (begun s) inits)) t ≡ no_thread

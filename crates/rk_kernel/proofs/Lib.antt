@@ -1,10 +1,3 @@
-pub mod NamesAgreeLemmas
-pub mod ThreadBoundsLemmas
-pub mod TimerLemmas
-pub mod TieLemmas
-pub mod GentleChangeLemmas
-pub mod OutcomeLemmas
-pub mod DirectiveLemmas
 pub mod ReadyQueueLemmas
 pub mod SoundSettlingLemmas
 pub mod CallerLemmas
@@ -15,9 +8,12 @@ pub mod PartsSettledLemmas
 pub mod OpenedPartLemmas
 pub mod TickLemmas
 pub mod ChargeLemmas
+pub mod PeriodEndLemmas
 pub mod FiringLemmas
 pub mod RunLowestLemmas
 pub mod HistoryLemmas
+pub mod EndedJobLemmas
+pub mod StatisticsLaws
 pub mod ReadyQueueLaws
 pub mod SeatLemmas
 pub mod UrgencyLaws

@@ -13,7 +13,7 @@ use Rattle.rk_model.specs.Text.Scenarios.{IsScenario}
 use Rattle.rk_model.proofs.LegalityLemmas.{ends_from, ends_is}
 use Rattle.rk_model.proofs.LimitLemmas.{limits_of}
 use Rattle.rk_kernel.specs.SchedulingLaws.{LowestGoesOn}
-use Rattle.rk_kernel.specs.Sound.{IsSound}
+use Rattle.rk_directives.specs.Sound.{IsSound}
 use Rattle.rk_kernel.proofs.OpeningLemmas.{sound_opening}
 use Rattle.rk_kernel.proofs.HistoryLemmas.{sound_act}
 

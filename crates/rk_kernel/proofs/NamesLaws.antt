@@ -2,13 +2,13 @@
 use Rattle.std.proofs.Common.{◌≡◌, ℕ, ◌≤◌, ◌&&◌, false, cond, nat_le, arith, sym, ◌∙◌}
 use Rattle.std.proofs.lemmas.Bool.Decides.{nat_tests}
 use Rattle.rk_model.specs.declared.ids.Class.{Class}
-use Rattle.rk_model.specs.declared.ids.Class.TheVariants.{Task, Barrier, Partition}
+use Rattle.rk_model.specs.declared.ids.Class.TheVariants.{Task, Barrier, Partition, Period}
 use Rattle.rk_model.specs.Names.{lives}
-use Rattle.rk_model.specs.State.{Plain, objects_of, no_thread, no_barrier, no_partition, thread_at, barrier_at, partition_at}
+use Rattle.rk_model.specs.State.{Plain, objects_of, no_thread, no_barrier, no_partition, no_period, thread_at, barrier_at, partition_at, period_at}
 use Rattle.rk_model.specs.Directives.Objects.{names_in}
-use Rattle.rk_kernel.specs.SchedulingLaws.{HasNames, NamesAndObjectsAgree, NothingIsLeftOfDeletedTasks, NothingIsLeftOfDeletedBarriers, NothingIsLeftOfDeletedPartitions}
-use Rattle.rk_kernel.specs.Sound.{IsSound}
-use Rattle.rk_kernel.proofs.NamesAgreeLemmas.{object_lives}
+use Rattle.rk_kernel.specs.SchedulingLaws.{HasNames, NamesAndObjectsAgree, NothingIsLeftOfDeletedTasks, NothingIsLeftOfDeletedBarriers, NothingIsLeftOfDeletedPartitions, NothingIsLeftOfDeletedPeriods}
+use Rattle.rk_directives.specs.Sound.{IsSound}
+use Rattle.rk_directives.proofs.NamesAgreeLemmas.{object_lives}
 use Rattle.rk_kernel.proofs.HistoryLemmas.{sound_after}
 
 once_within : (n index : ℕ) → n ≡ cond (nat_le 1 index && nat_le index 64) 1 0 → 1 ≤ index → index ≤ 64 → n ≡ 1
@@ -40,3 +40,9 @@ no_partition_left k i sound dead = sound.named.unused i (sym (object_lives k.tab
 
 pub partitions_left : NothingIsLeftOfDeletedPartitions
 partitions_left s xs is legal i dead = no_partition_left _ i (sound_after s xs is legal) dead
+
+no_period_left : (k : Plain) (i : ℕ) → IsSound k → lives (names_in k Period) i ≡ false → period_at k i ≡ no_period
+no_period_left k i sound dead = sound.named.idle i (sym (object_lives k.table (objects_of k) Period i sound.named) ∙ dead)
+
+pub periods_left : NothingIsLeftOfDeletedPeriods
+periods_left s xs is legal i dead = no_period_left _ i (sound_after s xs is legal) dead

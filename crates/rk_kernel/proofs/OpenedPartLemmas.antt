@@ -15,8 +15,8 @@ use Rattle.rk_parts.specs.Noted.{AreNoted, settled_part, bare}
 use Rattle.rk_parts.specs.Whole.{AreWhole}
 use Rattle.rk_parts.proofs.WholeLemmas.{lent_whole}
 use Rattle.rk_kernel.specs.Ready.{IsReady}
-use Rattle.rk_kernel.specs.Sound.{IsSound, IsGentle}
-use Rattle.rk_kernel.proofs.OpeningLemmas.{sound_vacant, gentle_started}
+use Rattle.rk_directives.specs.Sound.{IsSound, CanSettle}
+use Rattle.rk_kernel.proofs.OpeningLemmas.{sound_vacant, started_settles}
 use Rattle.rk_kernel.proofs.PartsSettledLemmas.{IsChanged, settled}
 
 -- All parts of the state in which there is no task yet.
@@ -75,7 +75,7 @@ pub record AreOpened (s : Scenario) (all : AllParts) : Type 0 where
 pub opened : (s : Scenario) (all : AllParts) (parts new : List ClusterPart) (names : Table) → IsWithinLimits s → StandVacant s all → HaveBegun s all parts names → map bare new ≡ map (settled_part []) parts → AreOpened s (with_parts all new names)
 opened s all parts new names within stand begin done =
     let changed : IsChanged all (with_parts all parts names) (started s) = record {
-      gentle = subst (λ (k : Plain). IsGentle k (started s)) (sym stand.vacant) (gentle_started s within);
+      settles = subst (λ (k : Plain). CanSettle k (started s)) (sym stand.vacant) (started_settles s within);
       state = plain_begun s all parts names stand begin;
       laid = subst (λ (t : Scenario). AreLaid t.clusters (layouts parts)) (sym (same_scenario s all stand)) begin.laid;
       kept = begin.kept;

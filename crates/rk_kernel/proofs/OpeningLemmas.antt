@@ -1,5 +1,5 @@
 -- The opening state is sound: it is the state with no task yet, changed gently and settled. How its tasks are started one after another.
-use Rattle.std.proofs.Common.{◌≡◌, ℕ, zero, suc, ◌+◌, ◌<◌, ◌≤◌, List, [], ◌∷◌, false, cond, ◌==◌, Option, None, length, get_or, length-append, length-take, ◌++◌, take, map, replicate, arith, refl, ap, sym, ◌∙◌}
+use Rattle.std.proofs.Common.{◌≡◌, ℕ, zero, suc, ◌+◌, ◌<◌, ◌≤◌, List, [], ◌∷◌, false, cond, ◌==◌, Option, None, Some, length, get_or, length-append, length-take, ◌++◌, take, map, replicate, arith, refl, ap, sym, ◌∙◌, subst}
 use Rattle.std.specs.List.{AllByRecursion, range_with_len, slice_set}
 use Rattle.std.proofs.lemmas.List.{length-replicate, length-map, map-append, take_more, take_all}
 use Rattle.std.proofs.lemmas.List.Elements.{All-from_recursion}
@@ -11,7 +11,7 @@ use Rattle.rk_model.specs.declared.state.Thread.{Thread}
 use Rattle.rk_model.specs.Lists.{nth, with_nth, times}
 use Rattle.rk_model.specs.Names.{Table, no_objects}
 use Rattle.rk_model.specs.Directives.Objects.{has_begun}
-use Rattle.rk_model.specs.State.{Plain, BarrierState, ClusterState, no_thread, no_barrier, thread_at, put_thread}
+use Rattle.rk_model.specs.State.{Plain, BarrierState, ClusterState, PeriodState, no_thread, no_barrier, no_cluster, no_period, thread_at, put_thread, period_at, cluster_at}
 use Rattle.rk_model.specs.Directives.Waits.{OfBarrier, object_of_wait, is_for}
 use Rattle.rk_model.specs.Scheduling.Priorities.{is_eligible}
 use Rattle.rk_model.specs.Scheduling.ReadyQueues.{has_cpu}
@@ -22,12 +22,15 @@ use Rattle.rk_model.specs.Limits.{IsWithinLimits}
 use Rattle.rk_parts.specs.declared.parts.ClusterPart.{ClusterPart}
 use Rattle.rk_parts.specs.declared.parts.GroupPart.{GroupPart}
 use Rattle.rk_parts.specs.Joined.{joined, thread_lent}
-use Rattle.rk_kernel.proofs.InitNamesLemmas.{none_stands, named_vacant, named_begun}
-use Rattle.rk_kernel.proofs.ThreadBoundsLemmas.{none_bounds, arrived_bounds}
-use Rattle.rk_kernel.specs.Sound.{stands, own, AllSound, IsInBounds, IsSound, AllTimed, IsGentle, IsQueued, AreTied, but_none, is_asleep}
+use Rattle.rk_kernel.proofs.InitNamesLemmas.{none_stands, none_timed, named_vacant, named_begun}
+use Rattle.rk_directives.proofs.ThreadBoundsLemmas.{none_bounds, arrived_bounds}
+use Rattle.rk_directives.specs.Sound.{stands, own, AllSound, IsInBounds, IsSound, AllTimed, IsGentle, CanSettle, IsQueued, AreTied, but_none, is_asleep}
+use Rattle.rk_directives.specs.SoundPeriods.{awaits, dues_of, IsPeriodSound, ArePeriodsSound}
+use Rattle.rk_directives.proofs.PeriodSoundLemmas.{none_sound}
+use Rattle.rk_model.specs.declared.state.Armer.TheVariants.{Period as OfPeriod}
 use Rattle.rk_model.proofs.CountLemmas.{times-filter}
 use Rattle.rk_model.proofs.BooleanLemmas.{and_false}
-use Rattle.rk_kernel.proofs.TimerLemmas.{keeps_same}
+use Rattle.rk_directives.proofs.TimerLemmas.{keeps_same}
 use Rattle.rk_kernel.proofs.SoundSettlingLemmas.{sound_settled}
 
 pub length-places : (n : ℕ) (threads : List Thread) → length (places n threads) ≡ n
@@ -111,6 +114,23 @@ begun_waits s n inits (suc i) = at n inits i where
   at (suc n) (init ∷ inits) zero = refl
   at (suc n) (init ∷ inits) (suc i) = at n inits i
 
+-- where there is no period, no timer is armed and no thread waits, periods are sound
+periods_free : (k : Plain) → k.periods ≡ replicate 64 no_period → ((c : ℕ) → (cluster_at k c).timers ≡ []) → ((t : ℕ) → (thread_at k t).wait ≡ None) → ArePeriodsSound k
+periods_free k none untimed free = record {
+  places = ap (λ (ps : List PeriodState). length ps) none ∙ length-replicate 64 no_period;
+  each = λ i. subst (λ (p : PeriodState). IsPeriodSound k.present (thread_at k p.creator) (λ c. (cluster_at k c).timers) i p) (sym (nothing i)) (none_sound k.present (thread_at k 0) (λ c. (cluster_at k c).timers) i (λ c. ap (dues_of (OfPeriod i)) (untimed c)));
+  waits = λ t i is. (let waits : None ≡ Some i = sym (ap awaits (free t)) ∙ is in let no : ⊥ = cc in absurd no);
+} where
+  nothing : (i : ℕ) → period_at k i ≡ no_period
+  nothing i = ap (λ (ps : List PeriodState). nth no_period ps i) none ∙ none_timed i
+
+no_timers : (s : Scenario) (c : ℕ) → (cluster_at (vacant s) c).timers ≡ []
+no_timers s c = at s.clusters c where
+  at : (counts : List ℕ) (c : ℕ) → (get_or (map free_cluster counts) c no_cluster).timers ≡ []
+  at [] c = refl
+  at (m ∷ counts) zero = refl
+  at (m ∷ counts) (suc c) = at counts c
+
 pub sound_vacant : (s : Scenario) → IsWithinLimits s → IsSound (vacant s)
 sound_vacant s within =
     let size : length (vacant s).clusters ≡ length s.clusters = length-map s.clusters free_cluster in
@@ -128,9 +148,10 @@ sound_vacant s within =
       clusters = all_free (vacant s) 0 s.clusters (no_place 64) within.few_cpus;
       named = named_vacant s;
       tied = tied_free (places 64 []) (vacant s).clusters (λ t. ap (λ (x : Thread). x.wait) (no_place 64 t));
+      periods = periods_free (vacant s) refl (no_timers s) (λ t. ap (λ (x : Thread). x.wait) (no_place 64 t));
     }
 
-pub gentle_started : (s : Scenario) → IsWithinLimits s → IsGentle (vacant s) (started s)
+gentle_started : (s : Scenario) → IsWithinLimits s → IsGentle (vacant s) (started s)
 gentle_started s within =
     let size : length (vacant s).clusters ≡ length s.clusters = length-map s.clusters free_cluster in
     let threads = places 64 (map (begun s) s.inits) in
@@ -147,9 +168,12 @@ gentle_started s within =
       tied = tied_free threads (vacant s).clusters (begun_waits s 64 s.inits);
     }
 
+pub started_settles : (s : Scenario) → IsWithinLimits s → CanSettle (vacant s) (started s)
+started_settles s within = record { gentle = gentle_started s within; periods = periods_free (started s) refl (no_timers s) (begun_waits s 64 s.inits) }
+
 -- The opening state is sound.
 pub sound_opening : (s : Scenario) → IsWithinLimits s → IsSound (opening s)
-sound_opening s within = sound_settled (vacant s) (started s) [] (sound_vacant s within) (gentle_started s within)
+sound_opening s within = sound_settled (vacant s) (started s) [] (sound_vacant s within) (started_settles s within)
 
 -- one more of the first places has a thread
 pub places-push : (n : ℕ) (threads : List Thread) (thread : Thread) (at : ℕ) → at ≡ length threads → at < n → slice_set (places n threads) at thread ≡ places n (threads ++ thread ∷ [])

@@ -18,10 +18,10 @@ use Rattle.rk_model.specs.Text.Scenarios.{cpus_in}
 use Rattle.rk_parts.proofs.LentSeatLemmas.{cpu_count_joined}
 use Rattle.rk_parts.proofs.PutLemmas.{length_clusters}
 use Rattle.rk_parts.proofs.SettledPartLemmas.{same_stored}
-use Rattle.rk_parts.proofs.WholeLemmas.{Keeps, lent_whole, ticks_framed, numbers_framed, partition_numbers_framed, whole_settled, plain_settled, all_noted_settled}
-use Rattle.rk_kernel.specs.Does.{Untouched, untouched}
+use Rattle.rk_parts.proofs.WholeLemmas.{Keeps, lent_whole, ticks_framed, barriers_framed, partitions_framed, periods_framed, whole_settled, plain_settled, all_noted_settled}
+use Rattle.rk_directives.specs.Does.{Untouched, untouched}
 use Rattle.rk_kernel.specs.Ready.{IsReady}
-use Rattle.rk_kernel.specs.Sound.{IsSound, IsGentle}
+use Rattle.rk_directives.specs.Sound.{IsSound, CanSettle}
 use Rattle.rk_kernel.proofs.ReadyQueueLemmas.{sound_lines}
 use Rattle.rk_kernel.proofs.SoundSettlingLemmas.{sound_settled}
 
@@ -60,8 +60,9 @@ whole_kept old all whole present kept rest =
       four = sym (length-map all.clusters stored_in) ∙ ap (λ (ss : List Stored). length ss) store ∙ length-map old.clusters stored_in ∙ whole.four;
       numbers = λ c low. ap (λ (x : Stored). x.lined.number) (same_stored old.clusters all.clusters c store) ∙ whole.numbers c low;
       laid = subst (λ (s : Scenario). AreLaid s.clusters (layouts all.clusters)) (sym same) (subst (AreLaid old.scenario.clusters) (sym lie) whole.laid);
-      groups = numbers_framed old.groups all.groups framed ∙ whole.groups;
-      partitions = partition_numbers_framed old.groups all.groups framed ∙ whole.partitions;
+      groups = barriers_framed old.groups all.groups framed whole.groups;
+      partitions = partitions_framed old.groups all.groups framed whole.partitions;
+      periods = periods_framed old.groups all.groups framed whole.periods;
       time = record {
         clusters = ap (λ (ss : List Stored). ticks_of ss) store ∙ whole.time.clusters ∙ ap (replicate 4) (sym present);
         groups = ticks_framed old.groups all.groups framed ∙ whole.time.groups ∙ ap (replicate 4) (sym present);
@@ -69,9 +70,9 @@ whole_kept old all whole present kept rest =
       };
     }
 
--- All parts after a gentle change of the state: they are laid as parts of a state, and what they store and what no directive touches is as before.
+-- All parts after a change of the state that can settle: they are laid as parts of a state, and what they store and what no directive touches is as before.
 pub record IsChanged (before mid : AllParts) (next : Plain) : Type 0 where
-  pub gentle : IsGentle (plain_of before) next
+  pub settles : CanSettle (plain_of before) next
   pub state : plain_of mid ≡ next
   pub laid : AreLaid before.scenario.clusters (layouts mid.clusters)
   pub kept : stored mid.clusters ≡ stored before.clusters
@@ -104,7 +105,7 @@ settled before mid new next last ready is done =
       state = state;
       ready = record {
         whole = whole_settled before mid new last ready.whole keep done;
-        sound = subst IsSound (sym state) (sound_settled k next last ready.sound is.gentle);
+        sound = subst IsSound (sym state) (sound_settled k next last ready.sound is.settles);
         noted = all_noted_settled before mid new last ready.whole ready.noted lines few keep done;
       };
     }

@@ -1,7 +1,7 @@
 -- The ready queue of each cluster holds its eligible threads, each once.
 use Rattle.std.proofs.Common.{◌∙◌}
 use Rattle.rk_model.specs.State.{Plain}
-use Rattle.rk_kernel.specs.Sound.{IsSound}
+use Rattle.rk_directives.specs.Sound.{IsSound}
 use Rattle.rk_kernel.specs.SchedulingLaws.{LinesHoldTheirOwn, HoldsItsOwn}
 use Rattle.rk_kernel.proofs.ReadyQueueLemmas.{own_once, sound_at}
 use Rattle.rk_kernel.proofs.HistoryLemmas.{sound_after}

@@ -14,7 +14,7 @@ use Rattle.rk_model.proofs.CountLemmas.{times-append, times-filter, has_times, h
 use Rattle.rk_model.proofs.BooleanLemmas.{and_false}
 use Rattle.rk_parts.proofs.StandingLemmas.{standings_say}
 use Rattle.rk_parts.specs.Noted.{LinesHold}
-use Rattle.rk_kernel.specs.Sound.{stands, own, IsSound, IsClusterSound, AllSound}
+use Rattle.rk_directives.specs.Sound.{stands, own, IsSound, IsClusterSound, AllSound}
 use Rattle.rk_kernel.proofs.CallerLemmas.{stands_eligible}
 
 -- ---- who belongs in the ready queue of a cluster

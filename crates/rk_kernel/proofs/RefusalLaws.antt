@@ -13,13 +13,15 @@ use Rattle.rk_model.specs.Scheduling.Settling.{settle}
 use Rattle.rk_model.specs.Directives.Outcomes.{Outcome, Refused, Done, Waiting, Gone, answer_of, status_of, last_of, go_on, after_outcome}
 use Rattle.rk_model.specs.Steps.{Act, act, act_of, clock_of, clock_entry, action, action_on, what_of, directive}
 use Rattle.rk_model.specs.Scheduling.Ticks.{tick}
-use Rattle.rk_kernel.specs.Calls.{IsActing}
-use Rattle.rk_kernel.specs.Sound.{IsSound}
-use Rattle.rk_kernel.specs.SchedulingLaws.{is_call, is_refused, is_refusal, refused_thread, RefusalsChangeTheCallerAlone}
+use Rattle.rk_model.specs.Statistics.{is_call}
+use Rattle.rk_directives.specs.Calls.{IsActing}
+use Rattle.rk_directives.specs.Sound.{IsSound}
+use Rattle.rk_directives.specs.Refusals.{is_refused}
+use Rattle.rk_kernel.specs.SchedulingLaws.{is_refusal, refused_thread, RefusalsChangeTheCallerAlone}
 use Rattle.rk_model.proofs.IndexLemmas.{nth-with_kept, length-with_nth}
 use Rattle.rk_kernel.proofs.CallerLemmas.{acting_of}
-use Rattle.rk_kernel.proofs.DirectiveLemmas.ActionLemmas.{op_fair}
-use Rattle.rk_kernel.proofs.OutcomeLemmas.{op_of, IsFair}
+use Rattle.rk_directives.proofs.DirectiveLemmas.ActionLemmas.{op_fair}
+use Rattle.rk_directives.proofs.OutcomeLemmas.{op_of, IsFair}
 use Rattle.rk_parts.specs.Threads.{own_standing}
 use Rattle.rk_parts.proofs.StandingLemmas.{standing_own}
 use Rattle.rk_kernel.specs.Manned.{AreManned}

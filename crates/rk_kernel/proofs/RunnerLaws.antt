@@ -20,7 +20,7 @@ use Rattle.rk_model.specs.Text.Scenarios.{IsScenario}
 use Rattle.rk_model.proofs.AssignmentLemmas.{length-assigned}
 use Rattle.rk_parts.specs.Settled.{settled_from}
 use Rattle.rk_parts.proofs.SettlingLemmas.{urgency-with_clusters}
-use Rattle.rk_kernel.specs.Sound.{stands, own, AllSound, IsClusterSound, IsSound, KeepsLines}
+use Rattle.rk_directives.specs.Sound.{stands, own, AllSound, IsClusterSound, IsSound, KeepsLines}
 use Rattle.rk_kernel.specs.Manned.{HasRunners, AllManned, AreManned, RunOnce}
 use Rattle.rk_kernel.specs.SchedulingLaws.{seats, ProcessorsHaveTheRunners, NoneRunsTwice}
 use Rattle.rk_kernel.proofs.ReadyQueueLemmas.{own_once, line_moved, sound_at}

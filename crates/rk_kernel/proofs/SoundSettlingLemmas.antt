@@ -5,7 +5,7 @@ use Rattle.rk_model.specs.declared.state.Armed.{Armed}
 use Rattle.rk_model.specs.declared.state.Armer.TheVariants.{Thread as OfThread}
 use Rattle.rk_model.specs.declared.state.Thread.{Thread}
 use Rattle.rk_model.specs.Lists.{nth, times}
-use Rattle.rk_model.specs.State.{Plain, BarrierState, ClusterState, no_thread, no_cluster}
+use Rattle.rk_model.specs.State.{Plain, BarrierState, ClusterState, no_thread, no_cluster, thread_at, period_at, cluster_at}
 use Rattle.rk_model.specs.Scheduling.Timers.{times_armed}
 use Rattle.rk_model.specs.Scheduling.Priorities.{is_eligible, urgency, standings}
 use Rattle.rk_model.specs.Scheduling.ReadyQueues.{most_urgent}
@@ -14,7 +14,8 @@ use Rattle.rk_model.specs.Scheduling.Running.{all_cpus, cpu_count}
 use Rattle.rk_model.proofs.AssignmentLemmas.{assigned_has, length-assigned}
 use Rattle.rk_parts.specs.Settled.{settled_cluster, settled_from}
 use Rattle.rk_parts.proofs.SettlingLemmas.{settle_each}
-use Rattle.rk_kernel.specs.Sound.{stands, own, AllSound, IsSound, KeepsLines, AllTimed, IsGentle, AreTied, but_none}
+use Rattle.rk_directives.specs.Sound.{stands, own, AllSound, IsSound, KeepsLines, AllTimed, CanSettle, AreTied, but_none}
+use Rattle.rk_directives.specs.SoundPeriods.{IsPeriodSound, ArePeriodsSound}
 use Rattle.rk_kernel.proofs.ReadyQueueLemmas.{line_moved}
 
 pub length-kept : (olds news : List ClusterState) → KeepsLines olds news → length news ≡ length olds
@@ -91,9 +92,23 @@ tied_settled shift key n barriers threads clusters tied = record {
   wakes = λ t apart asleep. subst (λ (timers : List Armed). 1 ≤ times_armed (OfThread t) timers) (sym (timers-settled_from shift key n 0 clusters (nth no_thread threads t).home)) (tied.wakes t apart asleep);
 }
 
--- A gentle change of a sound state, settled, is sound.
-pub sound_settled : (k next : Plain) (last : List ℕ) → IsSound k → IsGentle k next → IsSound (settle k next last)
-sound_settled k next last sound gentle =
+-- settling leaves periods alone
+periods_settled : (k next : Plain) (last : List ℕ) → ArePeriodsSound next → ArePeriodsSound (settle k next last)
+periods_settled k next last sound =
+    subst ArePeriodsSound (sym (settled_each k next last))
+    (record {
+      places = sound.places;
+      each = λ i. subst (λ (timers : ℕ → List Armed). IsPeriodSound next.present (thread_at next (period_at next i).creator) timers i (period_at next i)) (λ j c. sym (same c) j) (sound.each i);
+      waits = sound.waits;
+    })
+  where
+    same : (c : ℕ) → (get_or (each_settled k next last) c no_cluster).timers ≡ (cluster_at next c).timers
+    same c = timers-settled_from (shifts (standings k) (standings next) last) (urgency next) (length next.threads) 0 next.clusters c
+
+-- A change of a sound state that can settle, settled, is sound.
+pub sound_settled : (k next : Plain) (last : List ℕ) → IsSound k → CanSettle k next → IsSound (settle k next last)
+sound_settled k next last sound can =
+    let gentle = can.gentle in
     let same_length : length (settle k next last).clusters ≡ length k.clusters = length-settled k next last ∙ length-kept k.clusters next.clusters gentle.lines in
     record {
       places = gentle.places ∙ sound.places;
@@ -109,4 +124,5 @@ sound_settled k next last sound gentle =
       clusters = subst (λ (x : Plain). AllSound x 0 x.clusters) (sym (settled_each k next last)) (all_sound k next last (each_settled k next last) 0 k.clusters next.clusters gentle.places sound.clusters gentle.lines gentle.timers);
       named = gentle.named;
       tied = subst (λ (x : Plain). AreTied next.barriers next.threads x.clusters but_none) (sym (settled_each k next last)) (tied_settled (shifts (standings k) (standings next) last) (urgency next) (length next.threads) next.barriers next.threads next.clusters gentle.tied);
+      periods = periods_settled k next last can.periods;
     }

@@ -12,7 +12,7 @@ use Rattle.rk_kernel.specs.declared.steps.CoreStep.{CoreStep}
 use Rattle.rk_kernel.specs.declared.steps.CoreStep.TheVariants.{Did, Nothing}
 use Rattle.rk_kernel.specs.declared.steps.CoreTick.{CoreTick}
 use Rattle.rk_kernel.specs.declared.steps.CoreTick.TheVariants.{Ticked, Ended, NotYet}
-use Rattle.rk_kernel.specs.Sound.{IsSound}
+use Rattle.rk_directives.specs.Sound.{IsSound}
 use Rattle.rk_kernel.specs.Manned.{AreManned}
 use Rattle.rk_kernel.specs.Step.{IsStep, IsTick}
 use Rattle.rk_kernel.specs.SchedulingLaws.{RefusesAlone}

@@ -20,7 +20,7 @@ use Rattle.rk_parts.proofs.StandingLemmas.{length-standings, urgency_here}
 use Rattle.rk_model.proofs.BooleanLemmas.{equal_test, or_front, or_back}
 use Rattle.rk_kernel.specs.SchedulingLaws.{seats}
 use Rattle.rk_kernel.specs.Manned.{HasRunners, AllManned, AreManned}
-use Rattle.rk_kernel.specs.Sound.{IsSound, IsClusterSound, AllSound}
+use Rattle.rk_directives.specs.Sound.{IsSound, IsClusterSound, AllSound}
 use Rattle.rk_kernel.proofs.ReadyQueueLemmas.{line_belongs}
 use Rattle.rk_kernel.proofs.SeatLemmas.{has_seat, no_seat}
 

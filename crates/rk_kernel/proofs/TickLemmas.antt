@@ -7,9 +7,9 @@ use Rattle.rk_model.specs.declared.scenario.Scenario.{Scenario}
 use Rattle.rk_model.specs.declared.entry.What.TheVariants.{Tick, End}
 use Rattle.rk_model.specs.declared.state.Thread.{Thread}
 use Rattle.rk_model.specs.declared.state.Wait.{Wait}
-use Rattle.rk_model.specs.declared.state.Wait.TheVariants.{ForTime, ForEvents, AtBarrier}
+use Rattle.rk_model.specs.declared.state.Wait.TheVariants.{ForTime, ForEvents, AtBarrier, ForPeriod}
 use Rattle.rk_model.specs.Lists.{times}
-use Rattle.rk_model.specs.State.{Plain, ClusterState, objects_of, no_thread, thread_at, cluster_at}
+use Rattle.rk_model.specs.State.{Plain, ClusterState, PeriodState, objects_of, no_thread, thread_at, period_at, cluster_at}
 use Rattle.rk_model.specs.Scheduling.Priorities.{is_eligible, is_started, is_no_wait, spins_in}
 use Rattle.rk_model.specs.Directives.Objects.{has_begun}
 use Rattle.rk_model.specs.Directives.Waits.{object_of_wait, is_for}
@@ -17,11 +17,17 @@ use Rattle.rk_model.specs.Scheduling.Running.{least, runs_somewhere}
 use Rattle.rk_model.specs.Scheduling.Ticks.{charged, ticked, charge_from, pass, tick}
 use Rattle.rk_model.specs.Steps.{clock_of, clock_entry}
 use Rattle.rk_model.specs.Limits.{AreRunnable}
-use Rattle.rk_kernel.specs.Sound.{IsSound, IsInBounds, AllSound, own, stands, waits_in, is_waiting, is_asleep}
+use Rattle.rk_directives.specs.Sound.{IsSound, IsInBounds, AllSound, own, stands, waits_in, may_time_out, is_asleep}
+use Rattle.rk_directives.specs.SoundPeriods.{awaits, overdue, IsCounted, ArePeriodsSound}
+use Rattle.rk_model.specs.declared.period.Job.{Job}
+use Rattle.rk_model.specs.Directives.Periods.{running_job, end_of}
+use Rattle.rk_period.specs.Periods.{HasBegun}
+use Rattle.std.specs.Option.{option_to_list}
+use Rattle.std.specs.Prelude.{IfSome}
 use Rattle.rk_model.specs.declared.state.Armer.TheVariants.{Thread as OfThread}
 use Rattle.rk_model.specs.Scheduling.Timers.{times_armed}
-use Rattle.rk_kernel.proofs.NamesAgreeLemmas.{named_alike}
-use Rattle.rk_kernel.proofs.ThreadBoundsLemmas.{arrived_bounds}
+use Rattle.rk_directives.proofs.NamesAgreeLemmas.{named_alike}
+use Rattle.rk_directives.proofs.ThreadBoundsLemmas.{arrived_bounds}
 
 -- what holds at each of two outcomes of a test holds of the choice
 by_test : {X : Type 0} (P : X → Type 0) (b : Bool) (x y : X) → (b ≡ true → P x) → (b ≡ false → P y) → P (cond b x y)
@@ -53,6 +59,7 @@ spins_alike k n None = refl
 spins_alike k n (Some ForTime) = refl
 spins_alike k n (Some (ForEvents set all)) = refl
 spins_alike k n (Some (AtBarrier i)) = refl
+spins_alike k n (Some (ForPeriod i)) = refl
 
 eligible-pass : (k : Plain) (t : ℕ) → is_eligible (pass k) t ≡ is_eligible k t
 unfolding is_eligible
@@ -67,7 +74,7 @@ stands-pass k c t =
     ap (λ b. (eqb (thread_at (pass k) t).home c) && b) (eligible-pass k t) ∙ ap (λ h. (eqb h c) && is_eligible k t) (passed_steady (λ (x : Thread). x.home) k t (λ _ _ _ _. refl))
 
 timed-pass : (k : Plain) (c t : ℕ) → waits_in (pass k).threads c t ≡ waits_in k.threads c t
-timed-pass k c t = passed_steady (λ (x : Thread). (eqb x.home c) && is_waiting x.wait) k t (λ _ _ _ _. refl)
+timed-pass k c t = passed_steady (λ (x : Thread). (eqb x.home c) && may_time_out x.wait) k t (λ _ _ _ _. refl)
 
 own-pass : (k : Plain) (c : ℕ) → own (pass k) c ≡ own k c
 own-pass k c = rw length-charge_from (filter_agree (stands (pass k) c) (stands k c) (stands-pass k c) (range_with_len 1 (length k.threads)))
@@ -134,6 +141,61 @@ waits-pass k t = passed_steady (λ (x : Thread). x.wait) k t (λ _ _ _ _. refl)
 homes-pass : (k : Plain) (t : ℕ) → (thread_at (pass k) t).home ≡ (thread_at k t).home
 homes-pass k t = passed_steady (λ (x : Thread). x.home) k t (λ _ _ _ _. refl)
 
+-- What is counted of a period fits still after a tick.
+counted_pass : (present used used' : ℕ) (period : PeriodState) → used ≤ used' → IsCounted present used period → IsCounted (present + 1) used' period
+counted_pass present used used' period more counted = record {
+  count = omega (arith, counted.count, later present (end_of period.phase));
+  missed = omega (arith, counted.missed, later present (end_of period.phase));
+  elapsed = omega (arith, counted.elapsed);
+  computed = omega (arith, counted.computed, more);
+  job = by (running_job period.phase) counted.job;
+  late = counted.late;
+  steps = counted.steps;
+} where
+  later : (present : ℕ) (o : Option ℕ) → overdue (present + 1) o ≤ overdue present o + 1
+  later present None = omega arith
+  later present (Some next_end) = tests (nat_lt present next_end) (nat_lt (present + 1) next_end) where
+    tests : (b d : Bool) → cond d 0 1 ≤ cond b 0 1 + 1
+    tests true true = omega arith
+    tests true false = omega arith
+    tests false true = omega arith
+    tests false false = omega arith
+
+  by : (o : Option Job) → IfSome o (HasBegun period.stats present used) → IfSome o (HasBegun period.stats (present + 1) used')
+  by None begun = tt
+  by (Some job) begun = record { elapsed = begun.elapsed; start = omega (arith, begun.start); computed = begun.computed; before = omega (arith, begun.before, more) }
+
+computed-charged : (s : Scenario) (x : Thread) → x.computed ≤ (charged s x).computed
+computed-charged s x = by_test (λ (y : Thread). x.computed ≤ y.computed) (eqb x.left 0) _ _ (λ _. omega arith) (λ _. by_test (λ (y : Thread). x.computed ≤ y.computed) (eqb x.left 1) _ _ (λ _. omega arith) (λ _. omega arith))
+
+computed-ticked : (k : Plain) (t : ℕ) (x : Thread) → x.computed ≤ (ticked k t x).computed
+unfolding ticked
+computed-ticked k t x = by_test (λ (y : Thread). x.computed ≤ y.computed) (runs_somewhere k t) _ _ (λ _. computed-charged k.scenario x) (λ _. omega arith)
+
+-- no thread has computed less after a tick
+computed-pass : (k : Plain) (t : ℕ) → (thread_at k t).computed ≤ (thread_at (pass k) t).computed
+computed-pass k zero = omega arith
+computed-pass k (suc i) = at 1 k.threads i where
+  at : (a : ℕ) (threads : List Thread) (i : ℕ) → (get_or threads i no_thread).computed ≤ (get_or (charge_from k a threads) i no_thread).computed
+  at a [] i = omega arith
+  at a (x ∷ xs) zero = computed-ticked k a x
+  at a (x ∷ xs) (suc i) = at (a + 1) xs i
+
+periods_pass : (k : Plain) → ArePeriodsSound k → ArePeriodsSound (pass k)
+periods_pass k sound = record {
+  places = sound.places;
+  each = λ i. (
+      let by = (period_at k i).creator in
+      let each = sound.each i in
+      record {
+        created = λ live. begun-pass k by ∙ each.created live;
+        awaited = λ is. ap awaits (waits-pass k by) ∙ each.awaited is;
+        timed = λ c. each.timed c ∙ ap (λ h. cond (eqb h c) (option_to_list (end_of (period_at k i).phase)) []) (sym (homes-pass k by));
+        counted = counted_pass k.present (thread_at k by).computed (thread_at (pass k) by).computed (period_at k i) (computed-pass k by) each.counted;
+      });
+  waits = λ t i is. sound.waits t i (sym (ap awaits (waits-pass k t)) ∙ is);
+}
+
 -- A tick below the horizon keeps a state sound.
 pub sound_pass : (k : Plain) → IsSound k → k.present < k.scenario.horizon → IsSound (pass k)
 sound_pass k sound below = record {
@@ -153,6 +215,7 @@ sound_pass k sound below = record {
     queued = λ t apart object. sound.tied.queued t apart object ∙ ap (λ w. cond (is_for (object_of_wait w) object) 1 0) (sym (waits-pass k t));
     wakes = λ t apart asleep. subst (λ d. 1 ≤ times_armed (OfThread t) (cluster_at k d).timers) (sym (homes-pass k t)) (sound.tied.wakes t apart (sym (ap is_asleep (waits-pass k t)) ∙ asleep));
   };
+  periods = periods_pass k sound.periods;
 }
 
 -- ---- what the clock of a quiet kernel does

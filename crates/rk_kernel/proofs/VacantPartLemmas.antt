@@ -5,7 +5,7 @@ use Rattle.std.proofs.lemmas.List.{length-replicate, length-map, get_or-map, get
 use Rattle.rk_model.specs.declared.scenario.Scenario.{Scenario}
 use Rattle.rk_model.specs.declared.settling.Standing.{Standing}
 use Rattle.rk_model.specs.declared.state.Thread.{Thread}
-use Rattle.rk_model.specs.State.{no_thread, no_barrier, no_partition}
+use Rattle.rk_model.specs.State.{no_thread, no_barrier, no_partition, no_period}
 use Rattle.rk_model.specs.Directives.Objects.{has_begun}
 use Rattle.rk_model.specs.Scheduling.Priorities.{no_standing}
 use Rattle.rk_model.specs.Histories.{places, free_cluster, vacant}
@@ -17,10 +17,10 @@ use Rattle.rk_parts.specs.declared.parts.GroupPart.{GroupPart}
 use Rattle.rk_parts.specs.Threads.{own_standing}
 use Rattle.rk_places.specs.Stores.{none_live, group_of, stored_at}
 use Rattle.rk_signal.specs.Barriers.{no_stored}
-use Rattle.rk_parts.specs.Joined.{listed, cluster_of, placed_in, lives_in, held, numbered, present_of, threads_of, barrier_of, barrier_held, barriers_of, partition_held, partitions_of, clusters_of, clusters_by, plain_of}
+use Rattle.rk_parts.specs.Joined.{listed, cluster_of, placed_in, lives_in, held, numbered, present_of, threads_of, barrier_of, barrier_group, barrier_held, barriers_of, partition_group, partition_held, partitions_of, period_group, period_held, periods_of, clusters_of, clusters_by, plain_of}
 use Rattle.rk_parts.specs.Lent.{AreLaid, layouts, stored}
 use Rattle.rk_parts.specs.Noted.{no_part, part_at, standings_in, key_of, IsKeyed, AreNoted, bare}
-use Rattle.rk_parts.specs.Whole.{ticks_of, ticks_in, numbers_in, partition_numbers, AreWhole}
+use Rattle.rk_parts.specs.Whole.{ticks_of, ticks_in, AreWhole}
 use Rattle.rk_parts.proofs.ListedLemmas.{length-listed, get_or-listed}
 use Rattle.rk_parts.proofs.HeldLemmas.{held_nowhere, lives_nowhere, no_part_lives}
 use Rattle.rk_parts.proofs.LayoutLemmas.{Lie, laid}
@@ -178,6 +178,16 @@ partitions_vacant : (groups : List GroupPart) → groups ≡ vacant_groups → p
 unfolding partitions_of
 partitions_vacant groups made = ap (λ (gs : List GroupPart). listed (partition_held gs) 1 64) made ∙ listed_no no_partition (partition_held vacant_groups) 1 64 no_partition_held
 
+-- and no period
+no_period_held : (i : ℕ) → period_held vacant_groups i ≡ no_period
+no_period_held i = or_none no_period (0 == group_of i) (placed 0) (or_none no_period (1 == group_of i) (placed 1) (or_none no_period (2 == group_of i) (placed 2) (or_none no_period (3 == group_of i) (placed 3) refl))) where
+  placed : (number : ℕ) → stored_at no_period (none_live no_period number) i ≡ no_period
+  placed number = nth_replicate no_period 64 i
+
+periods_vacant : (groups : List GroupPart) → groups ≡ vacant_groups → periods_of groups ≡ replicate 64 no_period
+unfolding periods_of
+periods_vacant groups made = ap (λ (gs : List GroupPart). listed (period_held gs) 1 64) made ∙ listed_no no_period (period_held vacant_groups) 1 64 no_period_held
+
 -- ---- the parts that were made
 
 -- All parts as they are made, where no task was started yet.
@@ -200,7 +210,8 @@ plain_made s all made few =
     let threads = threads_vacant s.clusters all.clusters vacant in
     let barriers = barriers_vacant all.groups made.groups in
     let partitions = partitions_vacant all.groups made.groups in
-    λ i. record { scenario = made.scenario i; present = present i; clusters = clusters i; threads = threads i; barriers = barriers i; partitions = partitions i; table = made.names i }
+    let periods = periods_vacant all.groups made.groups in
+    λ i. record { scenario = made.scenario i; present = present i; clusters = clusters i; threads = threads i; barriers = barriers i; partitions = partitions i; periods = periods i; table = made.names i }
 
 -- are whole,
 pub whole_made : (s : Scenario) (all : AllParts) → AreMade s all → AreWhole all
@@ -212,8 +223,9 @@ whole_made s all made =
       four = vacant.four;
       numbers = λ c low. number_vacant s.clusters all.clusters c vacant low;
       laid = subst (λ (t : Scenario). AreLaid t.clusters (layouts all.clusters)) (sym made.scenario) (laid s.clusters all.clusters (lie_vacant s.clusters all.clusters vacant));
-      groups = ap (λ (gs : List GroupPart). numbers_in gs) made.groups;
-      partitions = ap (λ (gs : List GroupPart). partition_numbers gs) made.groups;
+      groups = ap (map barrier_group) made.groups;
+      partitions = ap (map partition_group) made.groups;
+      periods = ap (map period_group) made.groups;
       time = record {
         clusters = ticks ∙ ap (replicate 4) (sym present);
         groups = ap (λ (gs : List GroupPart). ticks_in gs) made.groups ∙ ap (replicate 4) (sym present);

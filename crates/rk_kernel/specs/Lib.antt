@@ -1,6 +1,3 @@
-pub mod Sound
-pub mod Does
-pub mod Calls
 pub mod Ready
 pub mod Step
 pub mod SchedulingLaws

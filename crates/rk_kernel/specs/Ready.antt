@@ -4,7 +4,7 @@ use Rattle.rk_parts.specs.declared.parts.AllParts.{AllParts}
 use Rattle.rk_parts.specs.Joined.{plain_of}
 use Rattle.rk_parts.specs.Noted.{AreNoted}
 use Rattle.rk_parts.specs.Whole.{AreWhole}
-use Rattle.rk_kernel.specs.Sound.{IsSound}
+use Rattle.rk_directives.specs.Sound.{IsSound}
 
 -- All parts are whole, the state that they stand for is sound, and in each of them it is noted how its threads stand.
 pub record IsReady (all : AllParts) : Type 0 where

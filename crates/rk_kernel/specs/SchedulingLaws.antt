@@ -1,18 +1,15 @@
 -- What holds of each state that a legal history leads to: of lines, runners and processors, of names, of waits, and of refusals.
-use Rattle.std.specs.Prelude.{ℕ, ◌+◌, ◌<◌, ◌≤◌, ◌≡◌, ◌↔◌, ◌⊎◌, List, [], ◌∷◌, ◌++◌, Bool, true, false, ◌&&◌, ◌||◌, not, Option, Some, None, ◌==◌, length, if◌then◌else◌}
+use Rattle.std.specs.Prelude.{ℕ, ◌+◌, ◌<◌, ◌≤◌, ◌≡◌, ◌↔◌, ◌⊎◌, List, [], ◌∷◌, ◌++◌, Bool, true, false, ◌&&◌, Option, Some, None, ◌==◌, length, if◌then◌else◌}
 use Rattle.rk_model.specs.declared.limits.TheConstants.{MOST_OBJECTS}
 use Rattle.rk_model.specs.declared.scenario.Scenario.{Scenario}
-use Rattle.rk_model.specs.declared.scenario.Op.{Op}
 use Rattle.rk_model.specs.declared.entry.Entry.{Entry}
-use Rattle.rk_model.specs.declared.entry.What.{What}
-use Rattle.rk_model.specs.declared.entry.What.TheVariants.{Call, Return, Tick, End}
 use Rattle.rk_model.specs.declared.state.Thread.{Thread}
 use Rattle.rk_model.specs.declared.entry.View.TheVariants.{Runs}
 use Rattle.rk_model.specs.Lists.{has, times}
 use Rattle.rk_model.specs.declared.ids.Class.{Class}
-use Rattle.rk_model.specs.declared.ids.Class.TheVariants.{Task, Barrier, Partition}
+use Rattle.rk_model.specs.declared.ids.Class.TheVariants.{Task, Barrier, Partition, Period}
 use Rattle.rk_model.specs.Names.{indices, lives}
-use Rattle.rk_model.specs.State.{Plain, ClusterState, no_thread, no_barrier, no_partition, thread_at, put_thread, barrier_at, partition_at, op_at, cluster_at}
+use Rattle.rk_model.specs.State.{Plain, ClusterState, no_thread, no_barrier, no_partition, no_period, thread_at, put_thread, barrier_at, partition_at, period_at, op_at, cluster_at}
 use Rattle.rk_model.specs.Directives.Objects.{names_in, is_live}
 use Rattle.rk_model.specs.Directives.Outcomes.{finished}
 use Rattle.rk_model.specs.Directives.Waits.{Object, object_of_wait, is_for, arrivals_in}
@@ -26,7 +23,9 @@ use Rattle.rk_model.specs.Histories.{Legal, after, ends, lowest}
 use Rattle.rk_model.specs.Text.Scenarios.{IsScenario}
 use Rattle.rk_kernel.specs.declared.steps.CoreStep.{CoreStep}
 use Rattle.rk_kernel.specs.declared.steps.CoreStep.TheVariants.{Did, Nothing}
-use Rattle.rk_kernel.specs.Sound.{stands, has_action, is_waiting, is_asleep}
+use Rattle.rk_model.specs.Statistics.{is_call, statistics}
+use Rattle.rk_directives.specs.Refusals.{is_refused}
+use Rattle.rk_directives.specs.Sound.{stands, has_action, may_time_out, is_asleep}
 
 -- it holds of the state after each legal history of each scenario
 abbrev pub AfterEach : (Plain → Type 0) → Type 0
@@ -95,6 +94,10 @@ NothingIsLeftOfDeletedBarriers = AfterEach (λ k. (i : ℕ) → lives (names_in 
 abbrev pub NothingIsLeftOfDeletedPartitions : Type 0
 NothingIsLeftOfDeletedPartitions = AfterEach (λ k. (i : ℕ) → lives (names_in k Partition) i ≡ false → partition_at k i ≡ no_partition)
 
+-- Where no period has a name, there is none: nothing is left there of one that was deleted.
+abbrev pub NothingIsLeftOfDeletedPeriods : Type 0
+NothingIsLeftOfDeletedPeriods = AfterEach (λ k. (i : ℕ) → lives (names_in k Period) i ≡ false → period_at k i ≡ no_period)
+
 -- how many timers of a thread are armed in these clusters
 abbrev pub timers_of : List ClusterState → ℕ → ℕ
 timers_of [] t = 0
@@ -104,8 +107,8 @@ timers_of (cluster ∷ clusters) t = times_armed (OfThread t) cluster.timers + t
 pub record HasTies (k : Plain) (t : ℕ) : Type 0 where
   -- it stands in the queue of an object, once, exactly where it waits for that object, and in no other queue;
   pub queued : (object : Object) → times t (arrivals_in k.barriers object) ≡ (if is_for (object_of_wait (thread_at k t).wait) object then 1 else 0)
-  -- it has at most one timer, and none where it doesn't wait;
-  pub timed : timers_of k.clusters t ≤ (if is_waiting (thread_at k t).wait then 1 else 0)
+  -- it has at most one timer, and none where it doesn't wait, or waits for a period;
+  pub timed : timers_of k.clusters t ≤ (if may_time_out (thread_at k t).wait then 1 else 0)
   -- and exactly one where it waits for a time
   pub wakes : is_asleep (thread_at k t).wait ≡ true → timers_of k.clusters t ≡ 1
 
@@ -121,21 +124,6 @@ LowestGoesOn = (s : Scenario) (n : ℕ) → IsScenario s → (ends (lowest s n) 
 abbrev pub NoneActsAtWork : Type 0
 NoneActsAtWork = AfterEach (λ k. (p t : ℕ) → caller k p ≡ Some t → (thread_at k t).finished ≡ None → has_action (op_at k.scenario (thread_at k t).body (thread_at k t).line) ≡ true)
 
--- whether an entry is that of a directive, and not of a return, a tick or the end
-abbrev pub is_call : What → Bool
-is_call Call = true
-is_call Return = false
-is_call Tick = false
-is_call End = false
-
--- Whether a line of a body may be done with TIMEOUT, which is no refusal then; none that is built so far may.
-abbrev pub may_be_late : Option Op → Bool
-may_be_late o = false
-
--- whether the number of a status that a line of a body has is that of a refusal: neither 0 (successful) nor 1 (the task has ended) nor 255 (it waits), nor 6 (it is late) where the line may be late
-abbrev pub is_refused : Option Op → ℕ → Bool
-is_refused o status = not ((status == 0) || (status == 1) || (status == 255) || ((status == 6) && may_be_late o))
-
 -- whether an entry is a refusal
 abbrev pub is_refusal : Scenario → Entry → Bool
 is_refusal s x = is_call x.what && is_refused (op_at s x.body x.line) x.status
@@ -143,6 +131,10 @@ is_refusal s x = is_call x.what && is_refused (op_at s x.body x.line) x.status
 -- a thread after its line refused: it has gone on, and nothing else of it changed but its result variable, which is 0
 abbrev pub refused_thread : Scenario → Thread → Thread
 refused_thread s thread = finished s thread 0
+
+-- The statistics that a period has are those of its history.
+abbrev pub StatisticsAreThoseOfTheHistory : Type 0
+StatisticsAreThoseOfTheHistory = (s : Scenario) (xs : List Entry) → IsScenario s → Legal s xs → (i : ℕ) → (period_at (after s xs) i).live ≡ true → (period_at (after s xs) i).stats ≡ statistics s xs i
 
 -- A refusal changes the caller alone: its thread has gone on, with 0 in its result variable, and nothing else of the state changed.
 abbrev pub RefusalsChangeTheCallerAlone : Type 0

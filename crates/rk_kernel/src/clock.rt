@@ -11,14 +11,15 @@ ghost use Rattle.rk_parts.specs.Firing.{due_now, FiresFirst};
 ghost use Rattle.rk_parts.specs.Joined.{plain_of, threads_of};
 ghost use Rattle.rk_parts.specs.Lent.{frame};
 ghost use Rattle.rk_parts.specs.Noted.{AreNoted};
-ghost use Rattle.rk_kernel.specs.Does.{BecomesBoth, HasLife, untouched};
+ghost use Rattle.rk_directives.specs.Does.{BecomesBoth, MayRing, untouched};
 ghost use Rattle.rk_kernel.specs.Manned.{RunOnce};
 ghost use Rattle.rk_kernel.specs.Ready.{IsReady};
 ghost use Rattle.rk_kernel.specs.Step.{IsTick};
 
-use crate::directives::outcomes::bare;
-use crate::directives::waits::end_wait;
 use crate::steps::CoreTick;
+use rk_directives::outcomes::bare;
+use rk_directives::periods::pass_end;
+use rk_directives::waits::end_wait;
 use rk_model::{Armer, Reply, Scenario, Status, Thread, View, Wait};
 use rk_parts::arrival::arrive;
 use rk_parts::lent::{renew, thread_of};
@@ -87,13 +88,15 @@ fn reply_at_timer(wait: Option<Wait>) -> Reply
 {
     match wait {
         Some(Wait::ForTime) | None => bare(Status::Successful),
-        Some(Wait::ForEvents(_, _)) | Some(Wait::AtBarrier(_)) => bare(Status::Timeout),
+        Some(Wait::ForEvents(_, _)) | Some(Wait::AtBarrier(_)) | Some(Wait::ForPeriod(_)) => {
+            bare(Status::Timeout)
+        }
     }
 }
 
-/// A timer fires: the wait of its thread, which lives, ends. No period has a timer so far.
+/// A timer that was taken out fires: the wait of its thread ends, or the end of its period passes.
 fn rung(clusters: &mut [ClusterPart], groups: &mut [GroupPart], who: Armer)
-    requires { HasLife clusters.old who }
+    requires { MayRing clusters.old groups.old who }
     ensures { (s : ScenarioView) → BecomesBoth s (λ k. rung k who) clusters.old groups.old clusters.new groups.new }
 {
     match who {
@@ -101,7 +104,7 @@ fn rung(clusters: &mut [ClusterPart], groups: &mut [GroupPart], who: Armer)
             let wait = thread_of(clusters, thread).wait;
             end_wait(clusters, groups, thread, reply_at_timer(wait));
         }
-        Armer::Period(_) => {}
+        Armer::Period(index) => pass_end(clusters, groups, u16::from(index)),
     }
 }
 

@@ -1,9 +1,13 @@
-ghost use Rattle.std.specs.Prelude.{◌≡◌, ◌<◌, ◌≤◌, ◌+◌, ℕ, [], length, IfOk, IfSome, Some, None, false};
-ghost use Rattle.rk_model.specs.declared.limits.TheConstants.{MOST_PROCESSORS};
+ghost use Rattle.std.specs.Prelude.{◌≡◌, ◌<◌, ◌≤◌, ◌+◌, ℕ, List, [], length, IfOk, IfSome, Some, None, false};
+ghost use Rattle.rk_model.specs.declared.entry.Entry.{Entry as EntryView};
+ghost use Rattle.rk_model.specs.declared.limits.TheConstants.{MOST_OBJECTS, MOST_PROCESSORS};
+ghost use Rattle.rk_model.specs.declared.scenario.Scenario.{Scenario as ScenarioView};
 ghost use Rattle.rk_model.specs.State.{Plain};
 ghost use Rattle.rk_model.specs.Scheduling.Running.{cpu_count, running, caller, least};
 ghost use Rattle.rk_model.specs.Steps.{act, clock_entry};
-ghost use Rattle.rk_model.specs.Histories.{opening, turn, lowest, lowest_from, next_of, is_end};
+ghost use Rattle.rk_model.specs.Histories.{Legal, after, opening, turn, lowest, lowest_from, next_of, is_end};
+ghost use Rattle.rk_model.specs.Statistics.{statistics};
+ghost use Rattle.rk_directives.specs.SoundPeriods.{live_stats};
 ghost use Rattle.rk_model.specs.Text.Scenarios.{IsScenario};
 ghost use Rattle.rk_parts.specs.Seats.{seat_of};
 ghost use Rattle.rk_kernel.specs.Step.{IsStep, IsTick};
@@ -13,8 +17,9 @@ use crate::clock::{tick_core, tick_quiet};
 use crate::opening::make_opening;
 use crate::steps::{CoreStep, CoreTick, act_by, step_core};
 use rk_model::limits::{CLOCK, MOST_PROCESSORS, MOST_TICKS};
-use rk_model::{Entry, History, NoMemory, Scenario, View, What};
+use rk_model::{Entry, History, NoMemory, Scenario, Stats, View, What};
 use rk_parts::parts::AllParts;
+use rk_parts::periods::{is_live, stats};
 use rk_parts::processors::{Calling, count_cpus, least_of, view_on};
 use rk_parts::ticks::present;
 use std::alloc::Global;
@@ -101,6 +106,22 @@ pub fn run_view(parts: &Parts, cpu: u8) -> View
     ensures { result ≡ running parts.now cpu }
 {
     view_on(&parts.all.clusters, cpu)
+}
+
+/// The statistics of the ended jobs of a period, whose index is from 1 to 64; `None` exactly where no
+/// period of that index lives. They are those of the history that led to the state: of the jobs that
+/// ended since the period was created. It takes no memory.
+pub fn period_stats(parts: &Parts, index: u16) -> Option<Stats>
+    requires low { 1 ≤ index }
+    requires high { index ≤ MOST_OBJECTS }
+    ensures stats { result ≡ live_stats parts.now index }
+    ensures history { (s : ScenarioView) (xs : List EntryView) → IsScenario s → Legal s xs → parts.now ≡ after s xs → IfSome result (λ stats. stats ≡ statistics s xs index) }
+{
+    if is_live(&parts.all.groups, index) {
+        Some(stats(&parts.all.groups, index))
+    } else {
+        None
+    }
 }
 
 /// Replays one action of a seat, a processor from 0 to 7 or the clock, 8; does nothing if that seat

@@ -3,7 +3,7 @@
 //! Each speaks of the state after any legal history of a scenario, but for the last two: one speaks
 //! of the planned history, and one of every state.
 
-ghost use Rattle.rk_kernel.specs.SchedulingLaws.{LinesHoldTheirOwn, ProcessorsHaveTheRunners, RunnersAreTheMostUrgent, NoneRunsTwice, NamesAndObjectsAgree, NothingIsLeftOfDeletedTasks, NothingIsLeftOfDeletedBarriers, NothingIsLeftOfDeletedPartitions, WaitsAndQueuesAgree, NoneActsAtWork, RefusalsChangeTheCallerAlone, LowestGoesOn};
+ghost use Rattle.rk_kernel.specs.SchedulingLaws.{LinesHoldTheirOwn, ProcessorsHaveTheRunners, RunnersAreTheMostUrgent, NoneRunsTwice, NamesAndObjectsAgree, NothingIsLeftOfDeletedTasks, NothingIsLeftOfDeletedBarriers, NothingIsLeftOfDeletedPartitions, NothingIsLeftOfDeletedPeriods, StatisticsAreThoseOfTheHistory, WaitsAndQueuesAgree, NoneActsAtWork, RefusalsChangeTheCallerAlone, LowestGoesOn};
 ghost use Rattle.rk_kernel.specs.Cut.{SuspendNeedsItsClusterAlone};
 
 /// The ready queue of each cluster holds exactly the eligible threads of that home, each once.
@@ -48,11 +48,22 @@ pub fn nothing_is_left_of_deleted_partitions()
     ensures { NothingIsLeftOfDeletedPartitions }
 {}
 
+/// Where no period has a name, there is none: nothing is left there of one that was deleted.
+pub fn nothing_is_left_of_deleted_periods()
+    ensures { NothingIsLeftOfDeletedPeriods }
+{}
+
 /// A thread stands in the queue of an object, once, exactly where it waits for that object, and in no
-/// other queue; it has at most one timer, only where it waits, and exactly one where it waits for a
-/// time.
+/// other queue; it has at most one timer, only where it waits and not for a period, and exactly one where
+/// it waits for a time.
 pub fn waits_and_queues_agree()
     ensures { WaitsAndQueuesAgree }
+{}
+
+/// The statistics that a period has are those of its history: of the jobs that ended since it was
+/// created, each with the ticks that passed and that its creator computed from its start to its end.
+pub fn statistics_are_those_of_the_history()
+    ensures { StatisticsAreThoseOfTheHistory }
 {}
 
 /// A directive never acts for a line of work or a goto: a thread that has a directive and doesn't

@@ -3,12 +3,13 @@
 #![tactic(auto)]
 
 mod clock;
-mod directives;
 mod kernel;
 pub mod laws;
 mod opening;
 mod steps;
 
-pub use kernel::{Parts, open_parts, replay, run_lowest, run_view, step_all, tick_all};
+pub use kernel::{
+    Parts, open_parts, period_stats, replay, run_lowest, run_view, step_all, tick_all,
+};
 pub use rk_model::View;
 pub use steps::{CoreStep, CoreTick};

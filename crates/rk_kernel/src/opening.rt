@@ -25,6 +25,7 @@ use rk_parts::parts::{AllParts, ClusterPart, GroupPart, TablePart};
 use rk_parts::settle::settle_parts;
 use rk_parts::table::Table;
 use rk_parts::threads::Threads;
+use rk_period::PeriodStore;
 use rk_signal::BarrierStore;
 use rk_wheel::Wheel;
 use std::alloc::Global;
@@ -116,6 +117,7 @@ fn make_group(alloc: Global, number: u8) -> Result<GroupPart, NoMemory>
         present: 0,
         barriers: BarrierStore::new(alloc, number)?,
         partitions: PartitionStore::new(alloc, number)?,
+        periods: PeriodStore::new(alloc, number)?,
         wakes: Wakes::new(alloc)?,
     })
 }

@@ -11,8 +11,8 @@ ghost use Rattle.rk_parts.specs.Joined.{plain_of};
 ghost use Rattle.rk_kernel.specs.Ready.{IsReady};
 ghost use Rattle.rk_kernel.specs.Step.{IsStep};
 
-use crate::directives::action;
-use crate::directives::outcomes::{conclude, last_of};
+use rk_directives::actions::action;
+use rk_directives::outcomes::{conclude, last_of};
 use rk_model::{Entry, ThreadIx, What, Why};
 use rk_parts::lent::thread_of;
 use rk_parts::parts::AllParts;

@@ -6,3 +6,4 @@ pub mod Tasks
 pub mod Events
 pub mod Barriers
 pub mod Partitions
+pub mod Periods

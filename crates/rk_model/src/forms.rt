@@ -28,6 +28,11 @@ pub const FORMS: &[Op] = &[
     Op::PartGet(Target::Own, 0),
     Op::PartReturn(Target::Own, Target::Given(0)),
     Op::PartDelete(Target::Own),
+    Op::PeriodCreate(Name { bits: 0 }, 0),
+    Op::PeriodIdent(Name { bits: 0 }, 0),
+    Op::PeriodPeriod(Target::Own, 0),
+    Op::PeriodCancel(Target::Own),
+    Op::PeriodDelete(Target::Own),
 ];
 
 impl Op {
@@ -58,6 +63,11 @@ impl Op {
             Op::PartGet(_, _) => "part.get",
             Op::PartReturn(_, _) => "part.return",
             Op::PartDelete(_) => "part.delete",
+            Op::PeriodCreate(_, _) => "period.create",
+            Op::PeriodIdent(_, _) => "period.ident",
+            Op::PeriodPeriod(_, _) => "period.period",
+            Op::PeriodCancel(_) => "period.cancel",
+            Op::PeriodDelete(_) => "period.delete",
         }
     }
 

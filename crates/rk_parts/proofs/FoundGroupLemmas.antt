@@ -8,7 +8,7 @@ use Rattle.rk_model.specs.Lists.{has, nth, with_nth}
 use Rattle.rk_model.proofs.BooleanLemmas.{same_number}
 use Rattle.rk_places.specs.Stores.{group_of}
 use Rattle.rk_parts.specs.declared.parts.GroupPart.{GroupPart}
-use Rattle.rk_parts.specs.Joined.{held_by, listed, barrier_held, barriers_of, partition_held, partitions_of}
+use Rattle.rk_parts.specs.Joined.{held_by, listed, barrier_held, barriers_of, partition_held, partitions_of, period_held, periods_of}
 use Rattle.rk_parts.specs.Groups.{group_at, first_of, holds, no_group, group_frame, group_frames}
 use Rattle.rk_parts.proofs.HeldLemmas.{found_here, found_later, found_nowhere}
 use Rattle.rk_parts.proofs.ListedLemmas.{get_or-listed, same_listed, set-listed}
@@ -92,7 +92,7 @@ holds_one number there none groups at i next x same found put others u = by (u =
 pub frames_same : (groups : List GroupPart) (at : ℕ) (group : GroupPart) → group_frame group ≡ group_frame (group_at groups at) → group_frames (set groups at group) ≡ group_frames groups
 frames_same groups at group same = map-set_same group_frame groups at group no_group same
 
--- where the barriers that groups hold are the same, so are those of the state, and so it is with partitions
+-- where the barriers that groups hold are the same, so are those of the state, and so it is with partitions and periods
 pub barriers_same : (old new : List GroupPart) → ((u : ℕ) → barrier_held new u ≡ barrier_held old u) → barriers_of new ≡ barriers_of old
 unfolding barriers_of
 barriers_same old new same = same_listed (barrier_held new) (barrier_held old) 1 64 same
@@ -100,6 +100,10 @@ barriers_same old new same = same_listed (barrier_held new) (barrier_held old) 1
 pub partitions_same : (old new : List GroupPart) → ((u : ℕ) → partition_held new u ≡ partition_held old u) → partitions_of new ≡ partitions_of old
 unfolding partitions_of
 partitions_same old new same = same_listed (partition_held new) (partition_held old) 1 64 same
+
+pub periods_same : (old new : List GroupPart) → ((u : ℕ) → period_held new u ≡ period_held old u) → periods_of new ≡ periods_of old
+unfolding periods_of
+periods_same old new same = same_listed (period_held new) (period_held old) 1 64 same
 
 -- ---- all groups
 

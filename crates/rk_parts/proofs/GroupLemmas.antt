@@ -13,7 +13,7 @@ use Rattle.rk_model.specs.declared.waiting.Caller.{Caller}
 use Rattle.rk_model.specs.declared.waiting.Wake.{Wake}
 use Rattle.rk_model.specs.Lists.{has, nth, with_nth}
 use Rattle.rk_model.specs.Names.{Table}
-use Rattle.rk_model.specs.State.{BarrierState, no_barrier, no_partition, put_barrier}
+use Rattle.rk_model.specs.State.{BarrierState, no_barrier, no_partition, no_period, put_barrier}
 use Rattle.rk_model.specs.Directives.Barriers.{is_full}
 use Rattle.rk_model.specs.Directives.Waits.{leave, object_of_wait, without, without_arrival}
 use Rattle.rk_model.proofs.IndexLemmas.{nth-with_other, nth-with_same}
@@ -24,9 +24,9 @@ use Rattle.rk_places.specs.Stores.{Store, IsOfGroup, IsStoreOf, stored_at, put_a
 use Rattle.rk_signal.specs.Barriers.{Stored, no_stored, emptied, waiter_of, with_waiter, without_waiter, ended, is_filled, waited, woken_by_wait, reply_to_wait}
 use Rattle.rk_parts.specs.declared.parts.ClusterPart.{ClusterPart}
 use Rattle.rk_parts.specs.declared.parts.GroupPart.{GroupPart}
-use Rattle.rk_parts.specs.Joined.{barrier_of, barrier_group, barrier_in, barrier_held, barriers_of, barrier_lent, partition_group, partition_in, joined, thread_lent}
+use Rattle.rk_parts.specs.Joined.{barrier_of, barrier_group, barrier_in, barrier_held, barriers_of, barrier_lent, partition_group, partition_in, period_group, period_in, joined, thread_lent}
 use Rattle.rk_parts.specs.Groups.{no_group, group_at, group_in, is_lent, wakes_in, wakes_at, PutsBarrier, Leaves, ended_waits, waited_at, woken_at, reply_at, left_at}
-use Rattle.rk_parts.proofs.FoundGroupLemmas.{nth-listed, put-listed, found_number, found_inside, found_holds, nowhere_holds, never_held, holds_here, holds_there, holds_one, partitions_same, frames_same}
+use Rattle.rk_parts.proofs.FoundGroupLemmas.{nth-listed, put-listed, found_number, found_inside, found_holds, nowhere_holds, never_held, holds_here, holds_there, holds_one, partitions_same, periods_same, frames_same}
 use Rattle.rk_parts.proofs.ListedLemmas.{get_or-any, length-listed}
 
 -- The barrier of an index in the state that groups stand for.
@@ -101,6 +101,7 @@ puts_barrier groups at i x wakes low high found store =
     record {
       barriers = barriers_put groups (set groups at next) i (barrier_of x) low (holds_one barrier_group barrier_in no_barrier groups at i next (barrier_of x) refl found put (λ u other. ap barrier_of (nth-with_other no_stored x group.barriers.places i u other)));
       partitions = partitions_same groups (set groups at next) (λ u. holds_there partition_group partition_in no_partition groups at u next refl refl);
+      periods = periods_same groups (set groups at next) (λ u. holds_there period_group period_in no_period groups at u next refl refl);
       kept = frames_same groups at next refl;
     }
 
@@ -167,6 +168,7 @@ leaves_nothing groups i t absent =
     record {
       barriers = sym (ap (with_nth (barriers_of groups) i) still ∙ with_nth-still no_barrier (barriers_of groups) i);
       partitions = refl;
+      periods = refl;
       kept = refl;
     }
 
@@ -201,6 +203,7 @@ leaves_found groups at i t low high found store = by (waits_in (stored_at no_sto
       record {
         barriers = puts.barriers ∙ ap (with_nth (barriers_of groups) i) left;
         partitions = puts.partitions;
+        periods = puts.periods;
         kept = puts.kept;
       }
   by false absent =
@@ -232,10 +235,10 @@ as_left groups at i t group barriers found is =
 
 -- a barrier that is put in its group is put in the state,
 pub barrier_joined : (s : Scenario) (table : Table) (parts : List ClusterPart) (old new : List GroupPart) (i : ℕ) (b : BarrierState) → PutsBarrier old i b new → joined s table parts new ≡ put_barrier (joined s table parts old) i b
-barrier_joined s table parts old new i b puts = λ k. record (joined s table parts old) { barriers = puts.barriers k; partitions = puts.partitions k }
+barrier_joined s table parts old new i b puts = λ k. record (joined s table parts old) { barriers = puts.barriers k; partitions = puts.partitions k; periods = puts.periods k }
 
 -- and a thread that leaves the queue of what it waits for leaves it in the state.
 pub left_joined : (s : Scenario) (table : Table) (parts : List ClusterPart) (old new : List GroupPart) (t : ℕ) (wait : Option Wait) → wait ≡ (thread_lent parts t).wait → Leaves old t wait new → joined s table parts new ≡ leave (joined s table parts old) t
 left_joined s table parts old new t wait waits leaves =
     let is : barriers_of new ≡ without_arrival (barriers_of old) t (object_of_wait (thread_lent parts t).wait) = leaves.barriers ∙ ap (λ (w : Option Wait). without_arrival (barriers_of old) t (object_of_wait w)) waits in
-    λ k. record (joined s table parts old) { barriers = is k; partitions = leaves.partitions k }
+    λ k. record (joined s table parts old) { barriers = is k; partitions = leaves.partitions k; periods = leaves.periods k }

@@ -5,8 +5,10 @@ pub mod LentSeatLemmas
 pub mod LeastProcessorLemmas
 pub mod PutLemmas
 pub mod FoundGroupLemmas
+pub mod GroupStoreLemmas
 pub mod GroupLemmas
 pub mod PartitionGroupLemmas
+pub mod PeriodGroupLemmas
 pub mod ReplaceLemmas
 pub mod LentTimerLemmas
 pub mod StandingLemmas

@@ -6,13 +6,13 @@ use Rattle.rk_model.specs.declared.scenario.Scenario.{Scenario}
 use Rattle.rk_parts.specs.declared.parts.ClusterPart.{ClusterPart}
 use Rattle.rk_parts.specs.declared.parts.GroupPart.{GroupPart}
 use Rattle.rk_parts.specs.declared.parts.AllParts.{AllParts}
-use Rattle.rk_model.specs.State.{Plain, no_barrier, no_partition}
-use Rattle.rk_parts.specs.Joined.{barrier_group, barrier_in, barriers_of, partition_group, partition_in, partitions_of, held_by, cluster_of, placed_in, lives_in, held, numbered, present_of, threads_of, clusters_of, clusters_by, plain_of}
+use Rattle.rk_model.specs.State.{Plain, no_barrier, no_partition, no_period}
+use Rattle.rk_parts.specs.Joined.{barrier_group, barrier_in, barriers_of, partition_group, partition_in, partitions_of, period_group, period_in, periods_of, held_by, cluster_of, placed_in, lives_in, held, numbered, present_of, threads_of, clusters_of, clusters_by, plain_of}
 use Rattle.rk_parts.specs.Lent.{AreLaid, Layout, layout, layouts, stored}
 use Rattle.rk_parts.specs.Noted.{part_at, standings_in, key_of, IsKeyed, AreNoted}
-use Rattle.rk_parts.specs.Whole.{AreWhole, ticks_of, ticks_in, numbers_in, partition_numbers, at_tick, group_at_tick}
+use Rattle.rk_parts.specs.Whole.{AreWhole, AreFour, ticks_of, ticks_in, at_tick, group_at_tick}
 use Rattle.rk_places.specs.Stores.{group_of}
-use Rattle.rk_parts.proofs.FoundGroupLemmas.{barriers_same, partitions_same}
+use Rattle.rk_parts.proofs.FoundGroupLemmas.{barriers_same, partitions_same, periods_same}
 use Rattle.rk_parts.proofs.ListedLemmas.{same_listed}
 use Rattle.rk_parts.proofs.PutLemmas.{Ranked, keys_in}
 
@@ -66,19 +66,21 @@ held_by_groups : {X : Type 0} (number : GroupPart → ℕ) (there : GroupPart �
 held_by_groups number there none n same alike [] i = refl
 held_by_groups number there none n same alike (g ∷ gs) i = rw (same g, alike g i) (ap (λ rest. if number g == group_of i then there g i else rest) (held_by_groups number there none n same alike gs i))
 
-numbers_tick : (n : ℕ) (groups : List GroupPart) → numbers_in (map (group_at_tick n) groups) ≡ numbers_in groups
-numbers_tick n [] = refl
-numbers_tick n (g ∷ gs) = ap (λ ns. g.barriers.group ∷ ns) (numbers_tick n gs)
-
-partition_numbers_tick : (n : ℕ) (groups : List GroupPart) → partition_numbers (map (group_at_tick n) groups) ≡ partition_numbers groups
-partition_numbers_tick n [] = refl
-partition_numbers_tick n (g ∷ gs) = ap (λ ns. g.partitions.group ∷ ns) (partition_numbers_tick n gs)
+-- the groups have the same numbers
+four_tick : (number : GroupPart → ℕ) (n : ℕ) (old new : List GroupPart) → ((g : GroupPart) → number (group_at_tick n g) ≡ number g) → new ≡ map (group_at_tick n) old → AreFour number old → AreFour number new
+four_tick number n old new same ticked four = ap (map number) ticked ∙ by old ∙ four where
+  by : (groups : List GroupPart) → map number (map (group_at_tick n) groups) ≡ map number groups
+  by [] = refl
+  by (g ∷ gs) = rw (same g) (ap (λ ns. number g ∷ ns) (by gs))
 
 barriers_tick : (n : ℕ) (groups : List GroupPart) → barriers_of (map (group_at_tick n) groups) ≡ barriers_of groups
 barriers_tick n groups = barriers_same groups (map (group_at_tick n) groups) (held_by_groups barrier_group barrier_in no_barrier n (λ g. refl) (λ g i. refl) groups)
 
 partitions_tick : (n : ℕ) (groups : List GroupPart) → partitions_of (map (group_at_tick n) groups) ≡ partitions_of groups
 partitions_tick n groups = partitions_same groups (map (group_at_tick n) groups) (held_by_groups partition_group partition_in no_partition n (λ g. refl) (λ g i. refl) groups)
+
+periods_tick : (n : ℕ) (groups : List GroupPart) → periods_of (map (group_at_tick n) groups) ≡ periods_of groups
+periods_tick n groups = periods_same groups (map (group_at_tick n) groups) (held_by_groups period_group period_in no_period n (λ g. refl) (λ g i. refl) groups)
 
 -- all parts with another tick stand for the state with that tick,
 pub state_tick : (n : ℕ) (old new : AllParts) → AreWhole old → new.clusters ≡ map (at_tick n) old.clusters → new.groups ≡ map (group_at_tick n) old.groups → new.scenario ≡ old.scenario → new.table.names ≡ old.table.names → plain_of new ≡ (let k : Plain = record (plain_of old) { present = n } in k)
@@ -89,7 +91,8 @@ state_tick n old new whole clusters groups scenario names =
     let ts : threads_of new.clusters ≡ threads_of old.clusters = ap (λ (ps : List ClusterPart). threads_of ps) clusters ∙ threads_tick n old.clusters in
     let bs : barriers_of new.groups ≡ barriers_of old.groups = ap (λ (gs : List GroupPart). barriers_of gs) groups ∙ barriers_tick n old.groups in
     let qs : partitions_of new.groups ≡ partitions_of old.groups = ap (λ (gs : List GroupPart). partitions_of gs) groups ∙ partitions_tick n old.groups in
-    λ i. record { scenario = scenario i; present = tick i; clusters = cs i; threads = ts i; barriers = bs i; partitions = qs i; table = names i }
+    let es : periods_of new.groups ≡ periods_of old.groups = ap (λ (gs : List GroupPart). periods_of gs) groups ∙ periods_tick n old.groups in
+    λ i. record { scenario = scenario i; present = tick i; clusters = cs i; threads = ts i; barriers = bs i; partitions = qs i; periods = es i; table = names i }
 
 -- are whole
 pub whole_tick : (n : ℕ) (old new : AllParts) → AreWhole old → new.clusters ≡ map (at_tick n) old.clusters → new.groups ≡ map (group_at_tick n) old.groups → new.table.present ≡ n → new.scenario ≡ old.scenario → AreWhole new
@@ -100,8 +103,9 @@ whole_tick n old new whole clusters groups table scenario =
       four = ap (λ (ps : List ClusterPart). length ps) clusters ∙ length-map old.clusters (at_tick n) ∙ whole.four;
       numbers = λ c h. ap (λ (ps : List ClusterPart). (part_at ps c).lined.number) clusters ∙ tick_at (λ (p : ClusterPart). p.lined.number) n old.clusters c (λ p. refl) ∙ whole.numbers c h;
       laid = subst (λ (s : Scenario). AreLaid s.clusters (layouts new.clusters)) (sym scenario) (subst (AreLaid old.scenario.clusters) (sym (ap (λ (ps : List ClusterPart). layouts ps) clusters ∙ layouts_tick n old.clusters)) whole.laid);
-      groups = ap (λ (gs : List GroupPart). numbers_in gs) groups ∙ numbers_tick n old.groups ∙ whole.groups;
-      partitions = ap (λ (gs : List GroupPart). partition_numbers gs) groups ∙ partition_numbers_tick n old.groups ∙ whole.partitions;
+      groups = four_tick barrier_group n old.groups new.groups (λ g. refl) groups whole.groups;
+      partitions = four_tick partition_group n old.groups new.groups (λ g. refl) groups whole.partitions;
+      periods = four_tick period_group n old.groups new.groups (λ g. refl) groups whole.periods;
       time = record {
         clusters = ap (λ (ps : List ClusterPart). ticks_of (stored ps)) clusters ∙ ticks_tick n old.clusters ∙ ap (λ m. replicate m n) whole.four ∙ ap (replicate 4) (sym tick);
         groups = ap (λ (gs : List GroupPart). ticks_in gs) groups ∙ groups_tick n old.groups ∙ ap (λ m. replicate m n) four ∙ ap (replicate 4) (sym tick);

@@ -6,11 +6,11 @@ use Rattle.rk_model.specs.Scheduling.Settling.{settle}
 use Rattle.rk_parts.specs.declared.parts.ClusterPart.{ClusterPart}
 use Rattle.rk_parts.specs.declared.parts.GroupPart.{GroupPart}
 use Rattle.rk_parts.specs.declared.parts.AllParts.{AllParts}
-use Rattle.rk_parts.specs.Joined.{barrier_group, partition_group, joined, present_of, plain_of}
+use Rattle.rk_parts.specs.Joined.{barrier_group, partition_group, period_group, joined, present_of, plain_of}
 use Rattle.rk_parts.specs.Lent.{number_in, AreLaid, layouts, Stored, stored_in, stored}
 use Rattle.rk_parts.specs.Noted.{part_at, AreNoted, LinesHold, settled_part, bare}
-use Rattle.rk_parts.specs.Groups.{GroupFrame, group_frames, holds_partitions, is_lent}
-use Rattle.rk_parts.specs.Whole.{ticks_of, ticks_in, numbers_in, partition_numbers, AreWhole}
+use Rattle.rk_parts.specs.Groups.{GroupFrame, group_frame, group_frames, holds_partitions, holds_periods, is_lent}
+use Rattle.rk_parts.specs.Whole.{ticks_of, ticks_in, AreFour, AreWhole}
 use Rattle.rk_parts.proofs.FoundGroupLemmas.{four_hold}
 use Rattle.rk_parts.proofs.LayoutLemmas.{lie}
 use Rattle.rk_parts.proofs.LentTimerLemmas.{number_found}
@@ -30,6 +30,9 @@ all_groups_lent all i whole low high = four_hold barrier_group all.groups i whol
 pub all_partitions_lent : (all : AllParts) (i : ℕ) → AreWhole all → 1 ≤ i → i ≤ 64 → holds_partitions all.groups i ≡ true
 all_partitions_lent all i whole low high = four_hold partition_group all.groups i whole.partitions
 
+pub all_periods_lent : (all : AllParts) (i : ℕ) → AreWhole all → 1 ≤ i → i ≤ 64 → holds_periods all.groups i ≡ true
+all_periods_lent all i whole low high = four_hold period_group all.groups i whole.periods
+
 -- what groups with the same frame have alike
 pub ticks_framed : (old new : List GroupPart) → group_frames new ≡ group_frames old → ticks_in new ≡ ticks_in old
 ticks_framed old new same = ticks_are new ∙ ap (λ (fs : List GroupFrame). map (λ (f : GroupFrame). f.present) fs) same ∙ sym (ticks_are old) where
@@ -37,17 +40,21 @@ ticks_framed old new same = ticks_are new ∙ ap (λ (fs : List GroupFrame). map
   ticks_are [] = refl
   ticks_are (g ∷ gs) = ap (λ ts. g.present ∷ ts) (ticks_are gs)
 
-pub numbers_framed : (old new : List GroupPart) → group_frames new ≡ group_frames old → numbers_in new ≡ numbers_in old
-numbers_framed old new same = numbers_are new ∙ ap (λ (fs : List GroupFrame). map (λ (f : GroupFrame). f.number) fs) same ∙ sym (numbers_are old) where
-  numbers_are : (groups : List GroupPart) → numbers_in groups ≡ map (λ (f : GroupFrame). f.number) (group_frames groups)
-  numbers_are [] = refl
-  numbers_are (g ∷ gs) = ap (λ ns. g.barriers.group ∷ ns) (numbers_are gs)
+-- the same numbers, by one that their frames have
+four_framed : (number : GroupPart → ℕ) (framed : GroupFrame → ℕ) (old new : List GroupPart) → ((g : GroupPart) → number g ≡ framed (group_frame g)) → group_frames new ≡ group_frames old → AreFour number old → AreFour number new
+four_framed number framed old new is same four = by new ∙ ap (λ (fs : List GroupFrame). map framed fs) same ∙ sym (by old) ∙ four where
+  by : (groups : List GroupPart) → map number groups ≡ map framed (group_frames groups)
+  by [] = refl
+  by (g ∷ gs) = rw (is g) (ap (λ ns. framed (group_frame g) ∷ ns) (by gs))
 
-pub partition_numbers_framed : (old new : List GroupPart) → group_frames new ≡ group_frames old → partition_numbers new ≡ partition_numbers old
-partition_numbers_framed old new same = numbers_are new ∙ ap (λ (fs : List GroupFrame). map (λ (f : GroupFrame). f.partitions) fs) same ∙ sym (numbers_are old) where
-  numbers_are : (groups : List GroupPart) → partition_numbers groups ≡ map (λ (f : GroupFrame). f.partitions) (group_frames groups)
-  numbers_are [] = refl
-  numbers_are (g ∷ gs) = ap (λ ns. g.partitions.group ∷ ns) (numbers_are gs)
+pub barriers_framed : (old new : List GroupPart) → group_frames new ≡ group_frames old → AreFour barrier_group old → AreFour barrier_group new
+barriers_framed old new same four = four_framed barrier_group (λ (f : GroupFrame). f.number) old new (λ g. refl) same four
+
+pub partitions_framed : (old new : List GroupPart) → group_frames new ≡ group_frames old → AreFour partition_group old → AreFour partition_group new
+partitions_framed old new same four = four_framed partition_group (λ (f : GroupFrame). f.partitions) old new (λ g. refl) same four
+
+pub periods_framed : (old new : List GroupPart) → group_frames new ≡ group_frames old → AreFour period_group old → AreFour period_group new
+periods_framed old new same four = four_framed period_group (λ (f : GroupFrame). f.periods) old new (λ g. refl) same four
 
 -- ---- ticks
 
@@ -100,8 +107,9 @@ whole_settled before mid new last whole keeps done =
       four = length_settled last mid.clusters new done ∙ four;
       numbers = λ c low. ap (λ (p : ClusterPart). p.lined.number) (part_settled last mid.clusters new c done (omega (arith, four, low))) ∙ numbers_kept before mid whole keeps c low;
       laid = subst (λ (s : Scenario). AreLaid s.clusters (layouts new)) (sym keeps.scenario) (subst (AreLaid before.scenario.clusters) (sym (layouts_settled last mid.clusters new done)) keeps.laid);
-      groups = numbers_framed before.groups mid.groups keeps.groups ∙ whole.groups;
-      partitions = partition_numbers_framed before.groups mid.groups keeps.groups ∙ whole.partitions;
+      groups = barriers_framed before.groups mid.groups keeps.groups whole.groups;
+      partitions = partitions_framed before.groups mid.groups keeps.groups whole.partitions;
+      periods = periods_framed before.groups mid.groups keeps.groups whole.periods;
       time = record {
         clusters = ticks ∙ whole.time.clusters ∙ ap (replicate 4) (sym present);
         groups = ticks_framed before.groups mid.groups keeps.groups ∙ whole.time.groups ∙ ap (replicate 4) (sym present);

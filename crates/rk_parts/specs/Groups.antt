@@ -1,4 +1,4 @@
--- The lent groups of objects: which are lent, and what a change of a barrier or of a partition does to them.
+-- The lent groups of objects: which are lent, and what a change of an object does to them.
 use Rattle.std.specs.Prelude.{ℕ, ◌≡◌, List, [], ◌∷◌, ◌++◌, Bool, false, ◌||◌, ◌==◌, Option, Some, None, map, if◌then◌else◌}
 use Rattle.std.specs.List.{slice_index_or}
 use Rattle.rk_model.specs.declared.entry.Reply.{Reply}
@@ -7,19 +7,19 @@ use Rattle.rk_model.specs.declared.status.Status.{Status}
 use Rattle.rk_model.specs.declared.status.Status.TheVariants.{Successful, Waits}
 use Rattle.rk_model.specs.declared.waiting.Wake.{Wake}
 use Rattle.rk_model.specs.Lists.{with_nth}
-use Rattle.rk_model.specs.State.{BarrierState, PartitionState}
+use Rattle.rk_model.specs.State.{BarrierState, PartitionState, PeriodState}
 use Rattle.rk_model.specs.Directives.Barriers.{is_full}
 use Rattle.rk_model.specs.Directives.Waits.{Object, OfBarrier, bare, object_of_wait, without_arrival}
 use Rattle.rk_queue.specs.Queues.{waits_in}
 use Rattle.rk_places.specs.Stores.{Store, group_of, stored_at, put_at}
 use Rattle.rk_signal.specs.Barriers.{Stored, no_stored, without_waiter}
 use Rattle.rk_parts.specs.declared.parts.GroupPart.{GroupPart}
-use Rattle.rk_parts.specs.Joined.{barrier_group, partition_group, held_by, barriers_of, partitions_of}
+use Rattle.rk_parts.specs.Joined.{barrier_group, partition_group, period_group, held_by, barriers_of, partitions_of, periods_of}
 use Rattle.rk_parts.specs.Lent.{one_more}
 
 -- a group without a place
 abbrev pub no_group : GroupPart
-no_group = record { present = 0; barriers = record { group = 0; places = [] }; partitions = record { group = 0; places = [] }; wakes = [] }
+no_group = record { present = 0; barriers = record { group = 0; places = [] }; partitions = record { group = 0; places = [] }; periods = record { group = 0; places = [] }; wakes = [] }
 
 -- the group that stands at a place among these
 abbrev pub group_at : List GroupPart → ℕ → GroupPart
@@ -30,24 +30,30 @@ abbrev pub first_of : (GroupPart → ℕ) → List GroupPart → ℕ → Option 
 first_of number [] i = None
 first_of number (group ∷ groups) i = if number group == group_of i then Some 0 else one_more (first_of number groups i)
 
--- as the barriers have the numbers, and as the partitions have them
+-- as the barriers have the numbers, and as the partitions and the periods have them
 abbrev pub group_in : List GroupPart → ℕ → Option ℕ
 group_in groups i = first_of barrier_group groups i
 
 abbrev pub partitions_in : List GroupPart → ℕ → Option ℕ
 partitions_in groups i = first_of partition_group groups i
 
+abbrev pub periods_in : List GroupPart → ℕ → Option ℕ
+periods_in groups i = first_of period_group groups i
+
 -- whether one of these groups has the number of an index's group
 abbrev pub holds : (GroupPart → ℕ) → List GroupPart → ℕ → Bool
 holds number [] i = false
 holds number (group ∷ groups) i = (number group == group_of i) || holds number groups i
 
--- whether the group of an index is lent, as the barriers have the numbers, and as the partitions have them
+-- whether the group of an index is lent, as the barriers have the numbers, and as the partitions and the periods have them
 abbrev pub is_lent : List GroupPart → ℕ → Bool
 is_lent groups i = holds barrier_group groups i
 
 abbrev pub holds_partitions : List GroupPart → ℕ → Bool
 holds_partitions groups i = holds partition_group groups i
+
+abbrev pub holds_periods : List GroupPart → ℕ → Bool
+holds_periods groups i = holds period_group groups i
 
 -- the waits that the last call on the group of an index ended; none where it isn't lent
 abbrev pub wakes_in : GroupPart → ℕ → List Wake
@@ -56,14 +62,15 @@ wakes_in group i = group.wakes
 abbrev pub wakes_at : List GroupPart → ℕ → List Wake
 wakes_at groups i = held_by barrier_group wakes_in [] groups i
 
--- What no directive changes of a group: its number, as its barriers and its partitions have it, and the present tick.
+-- What no directive changes of a group: its number, as its barriers, its partitions and its periods have it, and the present tick.
 pub record GroupFrame : Type 0 where
   pub number : ℕ
   pub partitions : ℕ
+  pub periods : ℕ
   pub present : ℕ
 
 abbrev pub group_frame : GroupPart → GroupFrame
-group_frame group = record { number = group.barriers.group; partitions = group.partitions.group; present = group.present }
+group_frame group = record { number = group.barriers.group; partitions = group.partitions.group; periods = group.periods.group; present = group.present }
 
 abbrev pub group_frames : List GroupPart → List GroupFrame
 group_frames groups = map group_frame groups
@@ -72,18 +79,28 @@ group_frames groups = map group_frame groups
 pub record PutsBarrier (old : List GroupPart) (i : ℕ) (barrier : BarrierState) (new : List GroupPart) : Type 0 where
   pub barriers : barriers_of new ≡ with_nth (barriers_of old) i barrier
   pub partitions : partitions_of new ≡ partitions_of old
+  pub periods : periods_of new ≡ periods_of old
   pub kept : group_frames new ≡ group_frames old
 
 -- The groups stand for the partitions with another one at an index, and keep their frame.
 pub record PutsPartition (old : List GroupPart) (i : ℕ) (partition : PartitionState) (new : List GroupPart) : Type 0 where
   pub partitions : partitions_of new ≡ with_nth (partitions_of old) i partition
   pub barriers : barriers_of new ≡ barriers_of old
+  pub periods : periods_of new ≡ periods_of old
+  pub kept : group_frames new ≡ group_frames old
+
+-- The groups stand for the periods with another one at an index, and keep their frame.
+pub record PutsPeriod (old : List GroupPart) (i : ℕ) (period : PeriodState) (new : List GroupPart) : Type 0 where
+  pub periods : periods_of new ≡ with_nth (periods_of old) i period
+  pub barriers : barriers_of new ≡ barriers_of old
+  pub partitions : partitions_of new ≡ partitions_of old
   pub kept : group_frames new ≡ group_frames old
 
 -- A thread has left the queue of what it waited for, and the groups keep their frame.
 pub record Leaves (old : List GroupPart) (t : ℕ) (wait : Option Wait) (new : List GroupPart) : Type 0 where
   pub barriers : barriers_of new ≡ without_arrival (barriers_of old) t (object_of_wait wait)
   pub partitions : partitions_of new ≡ partitions_of old
+  pub periods : periods_of new ≡ periods_of old
   pub kept : group_frames new ≡ group_frames old
 
 -- the waits of these threads, ended with a status and without an out number, in order

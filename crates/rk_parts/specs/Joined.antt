@@ -7,7 +7,7 @@ use Rattle.rk_model.specs.declared.state.Armed.{Armed}
 use Rattle.rk_model.specs.declared.state.Thread.{Thread}
 use Rattle.rk_model.specs.Lists.{nth}
 use Rattle.rk_model.specs.Names.{Table, no_objects}
-use Rattle.rk_model.specs.State.{Plain, ClusterState, BarrierState, PartitionState, no_thread, no_barrier, no_partition}
+use Rattle.rk_model.specs.State.{Plain, ClusterState, BarrierState, PartitionState, PeriodState, no_thread, no_barrier, no_partition, no_period}
 use Rattle.rk_model.specs.Histories.{free_cluster}
 use Rattle.rk_model.specs.Directives.Objects.{has_begun}
 use Rattle.rk_line.specs.Places.{threads}
@@ -65,31 +65,40 @@ clusters_of counts parts = clusters_by parts counts
 abbrev pub barrier_of : Stored → BarrierState
 barrier_of stored = record { live = stored.live; automatic = stored.automatic; most = stored.most; arrivals = waiting stored.queue.arrivals }
 
--- the number of a group, as its barriers have it, and as its partitions have it
+-- the number of a group, as its barriers, its partitions and its periods have it
 abbrev pub barrier_group : GroupPart → ℕ
 barrier_group group = group.barriers.group
 
 abbrev pub partition_group : GroupPart → ℕ
 partition_group group = group.partitions.group
 
+abbrev pub period_group : GroupPart → ℕ
+period_group group = group.periods.group
+
 -- what a group has at an index, in the first of these groups whose number is that of the index's group; where its group isn't lent, what stands for none
 abbrev pub held_by : {X : Type 0} → (GroupPart → ℕ) → (GroupPart → ℕ → X) → X → List GroupPart → ℕ → X
 held_by number at none [] i = none
 held_by number at none (group ∷ groups) i = if number group == group_of i then at group i else held_by number at none groups i
 
--- the barrier and the partition that a group has at an index
+-- the barrier, the partition and the period that a group has at an index
 abbrev pub barrier_in : GroupPart → ℕ → BarrierState
 barrier_in group i = barrier_of (stored_at no_stored group.barriers i)
 
 abbrev pub partition_in : GroupPart → ℕ → PartitionState
 partition_in group i = stored_at no_partition group.partitions i
 
--- the barrier and the partition of an index, in the first of these groups that is its group
+abbrev pub period_in : GroupPart → ℕ → PeriodState
+period_in group i = stored_at no_period group.periods i
+
+-- the barrier, the partition and the period of an index, in the first of these groups that is its group
 abbrev pub barrier_held : List GroupPart → ℕ → BarrierState
 barrier_held groups i = held_by barrier_group barrier_in no_barrier groups i
 
 abbrev pub partition_held : List GroupPart → ℕ → PartitionState
 partition_held groups i = held_by partition_group partition_in no_partition groups i
+
+abbrev pub period_held : List GroupPart → ℕ → PeriodState
+period_held groups i = held_by period_group period_in no_period groups i
 
 -- the barriers of these groups, at their indices
 unfoldable pub barriers_of : List GroupPart → List BarrierState
@@ -99,9 +108,13 @@ barriers_of groups = listed (barrier_held groups) 1 MOST_OBJECTS
 unfoldable pub partitions_of : List GroupPart → List PartitionState
 partitions_of groups = listed (partition_held groups) 1 MOST_OBJECTS
 
+-- the periods of these groups, at their indices
+unfoldable pub periods_of : List GroupPart → List PeriodState
+periods_of groups = listed (period_held groups) 1 MOST_OBJECTS
+
 -- The state that these parts stand for, in the run of a scenario and with this table.
 abbrev pub joined : Scenario → Table → List ClusterPart → List GroupPart → Plain
-joined s table parts groups = record { scenario = s; present = present_of parts; clusters = clusters_of s.clusters parts; threads = threads_of parts; barriers = barriers_of groups; partitions = partitions_of groups; table = table }
+joined s table parts groups = record { scenario = s; present = present_of parts; clusters = clusters_of s.clusters parts; threads = threads_of parts; barriers = barriers_of groups; partitions = partitions_of groups; periods = periods_of groups; table = table }
 
 -- the state that all parts of a running kernel stand for
 abbrev pub plain_of : AllParts → Plain
@@ -126,6 +139,10 @@ barrier_lent groups i = nth no_barrier (barriers_of groups) i
 -- the partition of an index, as these groups have it; no partition at 0 and above 64
 abbrev pub partition_lent : List GroupPart → ℕ → PartitionState
 partition_lent groups i = nth no_partition (partitions_of groups) i
+
+-- the period of an index, as these groups have it; no period at 0 and above 64
+abbrev pub period_lent : List GroupPart → ℕ → PeriodState
+period_lent groups i = nth no_period (periods_of groups) i
 
 -- the timers in the part in which a thread lives
 abbrev pub timers_lent : List ClusterPart → ℕ → List Armed

@@ -3,7 +3,7 @@ use Rattle.std.specs.Prelude.{ℕ, ◌≡◌, ◌<◌, List, [], ◌∷◌, map,
 use Rattle.rk_parts.specs.declared.parts.ClusterPart.{ClusterPart}
 use Rattle.rk_parts.specs.declared.parts.GroupPart.{GroupPart}
 use Rattle.rk_parts.specs.declared.parts.AllParts.{AllParts}
-use Rattle.rk_parts.specs.Joined.{present_of}
+use Rattle.rk_parts.specs.Joined.{barrier_group, partition_group, period_group, present_of}
 use Rattle.rk_parts.specs.Lent.{Stored, AreLaid, layouts, stored}
 use Rattle.rk_parts.specs.Noted.{part_at}
 
@@ -28,19 +28,16 @@ pub record AreOnTime (all : AllParts) : Type 0 where
   pub groups : ticks_in all.groups ≡ replicate 4 (present_of all.clusters)
   pub table : all.table.present ≡ present_of all.clusters
 
--- the numbers of these groups
-abbrev pub numbers_in : List GroupPart → List ℕ
-numbers_in groups = map (λ (group : GroupPart). group.barriers.group) groups
-
--- the numbers that their partitions have
-abbrev pub partition_numbers : List GroupPart → List ℕ
-partition_numbers groups = map (λ (group : GroupPart). group.partitions.group) groups
+-- These are the groups 0 to 3, by a number that each group has.
+abbrev pub AreFour : (GroupPart → ℕ) → List GroupPart → Type 0
+AreFour number groups = map number groups ≡ 0 ∷ 1 ∷ 2 ∷ 3 ∷ []
 
 -- These are all parts of a running kernel: those of the clusters 0 to 3, laid as parts of its state, and those of the groups 0 to 3; and they are on time.
 pub record AreWhole (all : AllParts) : Type 0 where
   pub four : length all.clusters ≡ 4
   pub numbers : (c : ℕ) → c < 4 → (part_at all.clusters c).lined.number ≡ c
   pub laid : AreLaid all.scenario.clusters (layouts all.clusters)
-  pub groups : numbers_in all.groups ≡ 0 ∷ 1 ∷ 2 ∷ 3 ∷ []
-  pub partitions : partition_numbers all.groups ≡ 0 ∷ 1 ∷ 2 ∷ 3 ∷ []
+  pub groups : AreFour barrier_group all.groups
+  pub partitions : AreFour partition_group all.groups
+  pub periods : AreFour period_group all.groups
   pub time : AreOnTime all

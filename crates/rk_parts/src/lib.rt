@@ -6,6 +6,7 @@ pub mod groups;
 pub mod lent;
 pub mod partitions;
 pub mod parts;
+pub mod periods;
 pub mod processors;
 pub mod settle;
 pub mod standing;

@@ -7,6 +7,7 @@ use crate::threads::Threads;
 use rk_cluster::{Cluster, Moves};
 use rk_model::{Scenario, Wakes};
 use rk_partition::PartitionStore;
+use rk_period::PeriodStore;
 use rk_signal::BarrierStore;
 use rk_wheel::Wheel;
 
@@ -34,6 +35,8 @@ pub struct GroupPart {
     pub barriers: BarrierStore,
     /// The partitions of the group.
     pub partitions: PartitionStore,
+    /// The periods of the group.
+    pub periods: PeriodStore,
     /// The waits that the last call of a manager ended.
     pub wakes: Wakes,
 }

@@ -47,6 +47,7 @@ pub fn spins(clusters: &[ClusterPart], thread: ThreadIx) -> bool
         Some(Wait::ForTime) => false,
         Some(Wait::ForEvents(_, _)) => false,
         Some(Wait::AtBarrier(_)) => false,
+        Some(Wait::ForPeriod(_)) => false,
     }
 }
 

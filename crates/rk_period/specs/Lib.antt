@@ -1,3 +1,2 @@
-pub mod Statistics
+pub mod PeriodSlots
 pub mod Periods
-pub mod PeriodPlaces

@@ -3,12 +3,12 @@
 #![tactic(auto)]
 
 mod period;
+mod phase;
 mod slot;
 mod stats;
 mod store;
 #[cfg(test)]
 mod tests;
 
-pub use period::{Job, Passed, PeriodState};
-pub use stats::{EndedJob, Stats};
+pub use period::Passed;
 pub use store::PeriodStore;

@@ -1,9 +1,12 @@
 ghost use Rattle.std.specs.Prelude.{◌≡◌, true, false};
 ghost use Rattle.std.specs.Borrow.{Lends, sem};
-ghost use Rattle.rk_period.specs.Periods.{Stored, no_stored, created, removed, reply_to_remove};
-ghost use Rattle.rk_period.specs.PeriodPlaces.{place_with};
+ghost use Rattle.rk_model.specs.State.{no_period};
+ghost use Rattle.rk_model.specs.Directives.Periods.{new_period};
+ghost use Rattle.rk_period.specs.Periods.{removed, reply_to_remove};
+ghost use Rattle.rk_period.specs.PeriodSlots.{place_with};
 
 use crate::period::{Period, reply};
+use crate::phase;
 use rk_model::{Reply, Status, ThreadIx};
 use std::marker::Model;
 
@@ -14,10 +17,10 @@ pub(crate) struct Slot {
 }
 
 impl Model for Slot {
-    ghost use Rattle.rk_period.specs.Periods.{Stored};
-    ghost use Rattle.rk_period.specs.PeriodPlaces.{stored_by};
+    ghost use Rattle.rk_model.specs.State.{PeriodState};
+    ghost use Rattle.rk_period.specs.PeriodSlots.{stored_by};
 
-    ghost Value = { Stored };
+    ghost Value = { PeriodState };
 
     ghost view = { λ s. stored_by s.period };
 }
@@ -28,7 +31,7 @@ impl Slot {
 
     /// A place in which no period lives.
     pub(crate) fn new() -> Slot
-        ensures { result ≡ no_stored }
+        ensures { result ≡ no_period }
     {
         Slot { period: None }
     }
@@ -36,7 +39,7 @@ impl Slot {
     /// Whether a period lives there.
     pub(crate) fn is_live(&self) -> bool
         ensures value { result ≡ self.now.live }
-        ensures vacant { result ≡ false → self.now ≡ no_stored }
+        ensures vacant { result ≡ false → self.now ≡ no_period }
     {
         self.period.is_some()
     }
@@ -61,7 +64,7 @@ impl Slot {
     /// Makes a period there.
     pub(crate) fn create(&mut self, by: ThreadIx)
         requires { self.old.live ≡ false }
-        ensures { self.new ≡ created by }
+        ensures { self.new ≡ new_period by }
     {
         self.period = Some(Period::new(by));
     }
@@ -72,7 +75,7 @@ impl Slot {
         ensures period { self.new ≡ removed self.old }
         ensures reply { result ≡ reply_to_remove self.old }
     {
-        if self.living().state.is_waited_for() {
+        if phase::is_awaited(self.living().phase) {
             reply(Status::ResourceInUse)
         } else {
             self.period = None;

@@ -1,41 +1,34 @@
-ghost use Rattle.std.specs.Prelude.{◌≡◌, ◌<◌, ◌≤◌, true, false, Some, IfOk};
+ghost use Rattle.std.specs.Prelude.{◌≡◌, ◌<◌, true, false, Some, IfOk};
 ghost use Rattle.std.specs.Borrow.{Lends, sem};
-ghost use Rattle.rk_period.specs.Periods.{Store, Stored, no_stored, none_live, IsOfGroup, IsStore, stored_at, put_at, Fits, created, called, reply_to_call, end_of, waits_for, passed, passing_of, cancelled, reply_to_cancel, removed, reply_to_remove};
-ghost use Rattle.rk_period.specs.PeriodPlaces.{place_of};
+ghost use Rattle.rk_model.specs.State.{no_period};
+ghost use Rattle.rk_model.specs.Directives.Periods.{end_of, new_period, passed};
+ghost use Rattle.rk_period.specs.Periods.{Fits, waits_for, called, reply_to_call, passing_of, cancelled_by, reply_to_cancel, removed, reply_to_remove};
+ghost use Rattle.rk_places.specs.Stores.{none_live, IsOfGroup, IsStoreOf, stored_at, put_at};
 
-use crate::period::{Passed, PeriodState};
+use crate::period::Passed;
 use crate::slot::Slot;
-use crate::stats::Stats;
-use rk_model::limits::MOST_OBJECTS;
-use rk_model::{NoMemory, Reply, ThreadIx};
+use rk_model::{NoMemory, Phase, Reply, Stats, ThreadIx};
+use rk_places::{PLACES, Places};
 use std::alloc::Global;
 use std::marker::Model;
-
-/// How many groups the indices are of.
-const GROUPS: u16 = 4;
-
-/// How many periods a group has room for.
-const PLACES: usize = MOST_OBJECTS / GROUPS as usize;
 
 /// The periods of a group: those whose index is its number and one more, or this and 4, 8 and so on
 /// up to 60 more. Contracts see the number and a place for each index from 1 to 64, of which those
 /// of other groups have no period.
 #[derive(Debug, Drop)]
 pub struct PeriodStore {
-    group: u8,
-    /// The places in the order of their indices.
-    slots: Vec<Slot>,
+    places: Places<Slot>,
 }
 
 impl Model for PeriodStore {
-    ghost use Rattle.rk_period.specs.Periods.{Store};
-    ghost use Rattle.rk_period.specs.PeriodPlaces.{spread, HasPlaces};
+    ghost use Rattle.rk_model.specs.State.{PeriodState, no_period};
+    ghost use Rattle.rk_places.specs.Stores.{Store, IsFull, store_of};
 
-    ghost Value = { Store };
+    ghost Value = { Store PeriodState };
 
-    ghost view = { λ s. record { group = s.group; places = spread s.group s.slots.items } };
+    ghost view = { λ s. store_of no_period s.places };
 
-    ghost invariant = { λ s. HasPlaces s.group s.slots.items };
+    ghost invariant = { λ s. IsFull s.places };
 }
 
 impl PeriodStore {
@@ -49,20 +42,20 @@ impl PeriodStore {
     /// `NoMemory` where there is no memory for them.
     pub fn new(alloc: Global, group: u8) -> Result<PeriodStore, NoMemory>
         requires { group < 4 }
-        ensures { IfOk result (λ s. s ≡ none_live group) }
+        ensures { IfOk result (λ s. s ≡ none_live no_period group) }
     {
-        let mut slots = Vec::with_capacity(alloc, PLACES)?;
+        let mut places = Places::new(alloc, group)?;
         for _made in 0..PLACES {
-            slots.push(Slot::new())?;
+            places.push(Slot::new());
         }
-        Ok(PeriodStore { group, slots })
+        Ok(PeriodStore { places })
     }
 
     /// Whether a period of this index lives.
     pub fn is_live(&self, index: u16) -> bool
         requires { IsOfGroup self.now.group index }
-        ensures value { result ≡ (stored_at self.now index).live }
-        ensures vacant { result ≡ false → stored_at self.now index ≡ no_stored }
+        ensures value { result ≡ (stored_at no_period self.now index).live }
+        ensures vacant { result ≡ false → stored_at no_period self.now index ≡ no_period }
     {
         self.slot(index).is_live()
     }
@@ -70,27 +63,27 @@ impl PeriodStore {
     /// The thread that created a period.
     pub fn creator(&self, index: u16) -> ThreadIx
         requires place { IsOfGroup self.now.group index }
-        requires live { (stored_at self.now index).live ≡ true }
-        ensures { result ≡ (stored_at self.now index).creator }
+        requires live { (stored_at no_period self.now index).live ≡ true }
+        ensures { result ≡ (stored_at no_period self.now index).creator }
     {
         self.slot(index).living().creator
     }
 
     /// How a period stands. With it and the statistics a caller can test what `period` and `passed`
     /// ask for.
-    pub fn state(&self, index: u16) -> PeriodState
+    pub fn phase(&self, index: u16) -> Phase
         requires place { IsOfGroup self.now.group index }
-        requires live { (stored_at self.now index).live ≡ true }
-        ensures { result ≡ (stored_at self.now index).state }
+        requires live { (stored_at no_period self.now index).live ≡ true }
+        ensures { result ≡ (stored_at no_period self.now index).phase }
     {
-        self.slot(index).living().state
+        self.slot(index).living().phase
     }
 
     /// The statistics of a period's ended jobs (`rtems_rate_monotonic_get_statistics`).
     pub fn stats(&self, index: u16) -> Stats
         requires place { IsOfGroup self.now.group index }
-        requires live { (stored_at self.now index).live ≡ true }
-        ensures { result ≡ (stored_at self.now index).stats }
+        requires live { (stored_at no_period self.now index).live ≡ true }
+        ensures { result ≡ (stored_at no_period self.now index).stats }
     {
         self.slot(index).living().stats
     }
@@ -98,8 +91,8 @@ impl PeriodStore {
     /// Makes an inactive period of a creator (`rtems_rate_monotonic_create`). It takes no memory.
     pub fn create(&mut self, index: u16, by: ThreadIx)
         requires place { IsOfGroup self.old.group index }
-        requires vacant { (stored_at self.old index).live ≡ false }
-        ensures { self.new ≡ put_at self.old index (created by) }
+        requires vacant { (stored_at no_period self.old index).live ≡ false }
+        ensures { self.new ≡ put_at self.old index (new_period by) }
     {
         self.slot_mut(index).create(by);
     }
@@ -116,11 +109,11 @@ impl PeriodStore {
     /// length counts from it on.
     pub fn period(&mut self, index: u16, by: ThreadIx, length: u32, now: u64, used: u64) -> Reply
         requires place { IsOfGroup self.old.group index }
-        requires live { (stored_at self.old index).live ≡ true }
-        requires goes_on { waits_for (stored_at self.old index) by ≡ false }
-        requires fits { by ≡ (stored_at self.old index).creator → Fits now used (stored_at self.old index) }
-        ensures period { self.new ≡ put_at self.old index (called by length now used (stored_at self.old index)) }
-        ensures reply { result ≡ reply_to_call by length (stored_at self.old index) }
+        requires live { (stored_at no_period self.old index).live ≡ true }
+        requires goes_on { waits_for (stored_at no_period self.old index) by ≡ false }
+        requires fits { by ≡ (stored_at no_period self.old index).creator → Fits now used (stored_at no_period self.old index) }
+        ensures period { self.new ≡ put_at self.old index (called by length now used (stored_at no_period self.old index)) }
+        ensures reply { result ≡ reply_to_call by length (stored_at no_period self.old index) }
     {
         self.slot_mut(index)
             .living_mut()
@@ -132,11 +125,11 @@ impl PeriodStore {
     /// creator has computed `used` ticks.
     pub fn passed(&mut self, index: u16, now: u64, used: u64) -> Passed
         requires place { IsOfGroup self.old.group index }
-        requires live { (stored_at self.old index).live ≡ true }
-        requires due { end_of (stored_at self.old index).state ≡ Some now }
-        requires fits { Fits now used (stored_at self.old index) }
-        ensures period { self.new ≡ put_at self.old index (passed now used (stored_at self.old index)) }
-        ensures passing { result ≡ passing_of (stored_at self.old index).state }
+        requires live { (stored_at no_period self.old index).live ≡ true }
+        requires due { end_of (stored_at no_period self.old index).phase ≡ Some now }
+        requires fits { Fits now used (stored_at no_period self.old index) }
+        ensures period { self.new ≡ put_at self.old index (passed now used (stored_at no_period self.old index)) }
+        ensures passing { result ≡ passing_of (stored_at no_period self.old index).phase }
     {
         self.slot_mut(index).living_mut().pass(now, used)
     }
@@ -146,10 +139,10 @@ impl PeriodStore {
     /// caller isn't its creator, and else `Successful`.
     pub fn cancel(&mut self, index: u16, by: ThreadIx) -> Reply
         requires place { IsOfGroup self.old.group index }
-        requires live { (stored_at self.old index).live ≡ true }
-        requires goes_on { waits_for (stored_at self.old index) by ≡ false }
-        ensures period { self.new ≡ put_at self.old index (cancelled by (stored_at self.old index)) }
-        ensures reply { result ≡ reply_to_cancel by (stored_at self.old index) }
+        requires live { (stored_at no_period self.old index).live ≡ true }
+        requires goes_on { waits_for (stored_at no_period self.old index) by ≡ false }
+        ensures period { self.new ≡ put_at self.old index (cancelled_by by (stored_at no_period self.old index)) }
+        ensures reply { result ≡ reply_to_cancel by (stored_at no_period self.old index) }
     {
         self.slot_mut(index).living_mut().cancel(by)
     }
@@ -158,9 +151,9 @@ impl PeriodStore {
     /// its creator waits for it, and else `Successful`.
     pub fn remove(&mut self, index: u16) -> Reply
         requires place { IsOfGroup self.old.group index }
-        requires live { (stored_at self.old index).live ≡ true }
-        ensures period { self.new ≡ put_at self.old index (removed (stored_at self.old index)) }
-        ensures reply { result ≡ reply_to_remove (stored_at self.old index) }
+        requires live { (stored_at no_period self.old index).live ≡ true }
+        ensures period { self.new ≡ put_at self.old index (removed (stored_at no_period self.old index)) }
+        ensures reply { result ≡ reply_to_remove (stored_at no_period self.old index) }
     {
         self.slot_mut(index).remove()
     }
@@ -168,35 +161,26 @@ impl PeriodStore {
     /// The place of an index.
     fn slot(&self, index: u16) -> &Slot
         requires { IsOfGroup self.now.group index }
-        ensures { result.now ≡ stored_at self.now index }
+        ensures { result.now ≡ stored_at no_period self.now index }
     {
-        &self.slots[place_at(index)]
+        self.places.at(index)
     }
 
     /// The place of an index, to be changed.
     fn slot_mut(&mut self, index: u16) -> &mut Slot
         requires { IsOfGroup self.old.group index }
         ensures* writes_back { sem 𝓛 (Lends the_row slot_row self.entry result (put_at self.entry.now index)) }
-        ensures value { result.now ≡ stored_at self.old index }
+        ensures value { result.now ≡ stored_at no_period self.old index }
     {
-        let at = place_at(index);
-        &mut self.slots[at]
+        self.places.at_mut(index)
     }
 
     /// The number of the group, from 0 to 3. Its contract also tells that there are places for 64
     /// periods, and that at each index of another group none lives.
     pub fn group(&self) -> u8
         ensures value { result ≡ self.now.group }
-        ensures store { IsStore self.now }
+        ensures store { IsStoreOf no_period self.now }
     {
-        self.group
+        self.places.group()
     }
-}
-
-/// Which of the places of its group an index has.
-fn place_at(index: u16) -> usize
-    requires { 1 ≤ index }
-    ensures { result ≡ place_of index }
-{
-    ((index - 1) / GROUPS) as usize
 }

@@ -1,47 +1,64 @@
 ghost use Rattle.std.specs.Prelude.{◌≡◌, ◌≤◌, ◌<◌, true, false, Some, IfSome};
-ghost use Rattle.rk_period.specs.Periods.{IsOfGroup, stored_at, Fits, HasBegun, end_of, running_job, postponed_of, waits_for};
+ghost use Rattle.rk_model.specs.State.{no_period};
+ghost use Rattle.rk_model.specs.Directives.Periods.{running_job, postponed_of, end_of};
+ghost use Rattle.rk_period.specs.Periods.{Fits, HasBegun, waits_for};
+ghost use Rattle.rk_places.specs.Stores.{IsOfGroup, stored_at};
 
-use crate::{Passed, PeriodState, PeriodStore, Stats};
+use crate::phase::is_awaited;
+use crate::stats::no_stats;
+use crate::{Passed, PeriodStore};
 use rk_model::limits::MOST_TICKS;
-use rk_model::{NoMemory, Reply, Status, ThreadIx};
+use rk_model::{Job, NoMemory, Phase, Reply, Stats, Status, ThreadIx};
 use std::test::Fail;
 
 /// How many jobs are postponed.
-fn postponed_of_state(state: PeriodState) -> u64
-    ensures { result ≡ postponed_of state }
+fn postponed_of(phase: Phase) -> u64
+    ensures { result ≡ postponed_of phase }
 {
-    match state {
-        PeriodState::Inactive => 0,
-        PeriodState::Running { postponed, .. } => postponed,
-        PeriodState::Waiting { .. } => 0,
+    match phase {
+        Phase::Inactive => 0,
+        Phase::Active { .. } => 0,
+        Phase::Awaited { .. } => 0,
+        Phase::Expired { postponed, .. } => postponed,
+    }
+}
+
+/// The job that runs, if one does.
+fn running_job(phase: Phase) -> Option<Job>
+    ensures { result ≡ running_job phase }
+{
+    match phase {
+        Phase::Inactive => None,
+        Phase::Active { job, .. } => Some(job),
+        Phase::Awaited { .. } => None,
+        Phase::Expired { job, .. } => Some(job),
     }
 }
 
 /// Whether the job that runs, if one does, began after the others ended, and in the past.
-fn has_begun(state: PeriodState, stats: Stats, now: u64, used: u64) -> bool
-    ensures { result ≡ true → IfSome (running_job state) (HasBegun stats now used) }
+fn has_begun(running: Option<Job>, stats: Stats, now: u64, used: u64) -> bool
+    ensures { result ≡ true → IfSome running (HasBegun stats now used) }
 {
-    match state {
-        PeriodState::Inactive => true,
-        PeriodState::Running { job, .. } => {
+    match running {
+        None => true,
+        Some(job) => {
             stats.wall_total <= job.start
                 && job.start <= now
                 && stats.cpu_total <= job.used
                 && job.used <= used
         }
-        PeriodState::Waiting { .. } => true,
     }
 }
 
 /// Whether the counts and totals of a period fit the present tick and the computed ticks.
 fn fits(store: &PeriodStore, index: u16, now: u64, used: u64) -> bool
     requires place { IsOfGroup store.now.group index }
-    requires live { (stored_at store.now index).live ≡ true }
-    ensures { result ≡ true → Fits now used (stored_at store.now index) }
+    requires live { (stored_at no_period store.now index).live ≡ true }
+    ensures { result ≡ true → Fits now used (stored_at no_period store.now index) }
 {
-    let state = store.state(index);
+    let phase = store.phase(index);
     let stats = store.stats(index);
-    if now > MOST_TICKS as u64 || used > MOST_TICKS as u64 || postponed_of_state(state) > now {
+    if now > MOST_TICKS as u64 || used > MOST_TICKS as u64 || postponed_of(phase) > now {
         return false;
     }
     if stats.count > now || stats.missed > now {
@@ -50,7 +67,7 @@ fn fits(store: &PeriodStore, index: u16, now: u64, used: u64) -> bool
     if stats.wall_total > now || stats.cpu_total > used {
         return false;
     }
-    has_begun(state, stats, now, used)
+    has_begun(running_job(phase), stats, now, used)
 }
 
 /// Makes a period, where none lives.
@@ -78,7 +95,7 @@ fn period(
     if !store.is_live(index) || !fits(store, index, now, used) {
         return None;
     }
-    if store.creator(index) == by && store.state(index).is_waited_for() {
+    if store.creator(index) == by && is_awaited(store.phase(index)) {
         return None;
     }
     let reply = store.period(index, by, length, now, used);
@@ -97,7 +114,7 @@ fn passed(store: &mut PeriodStore, index: u16, now: u64, used: u64) -> Option<Pa
     if !store.is_live(index) || !fits(store, index, now, used) {
         return None;
     }
-    if is_due(store.state(index), now) {
+    if is_due(store.phase(index), now) {
         Some(store.passed(index, now, used))
     } else {
         None
@@ -105,13 +122,14 @@ fn passed(store: &mut PeriodStore, index: u16, now: u64, used: u64) -> Option<Pa
 }
 
 /// Whether the next end is now.
-fn is_due(state: PeriodState, now: u64) -> bool
-    ensures { result ≡ true → end_of state ≡ Some now }
+fn is_due(phase: Phase, now: u64) -> bool
+    ensures { result ≡ true → end_of phase ≡ Some now }
 {
-    match state {
-        PeriodState::Inactive => false,
-        PeriodState::Running { next_end, .. } => next_end == now,
-        PeriodState::Waiting { next_end, .. } => next_end == now,
+    match phase {
+        Phase::Inactive => false,
+        Phase::Active { next_end, .. } => next_end == now,
+        Phase::Awaited { next_end, .. } => next_end == now,
+        Phase::Expired { next_end, .. } => next_end == now,
     }
 }
 
@@ -123,7 +141,7 @@ fn cancel(store: &mut PeriodStore, index: u16, by: ThreadIx) -> Option<Reply>
     if !store.is_live(index) {
         return None;
     }
-    if store.creator(index) == by && store.state(index).is_waited_for() {
+    if store.creator(index) == by && is_awaited(store.phase(index)) {
         return None;
     }
     Some(store.cancel(index, by))
@@ -164,11 +182,11 @@ fn stats(store: &PeriodStore, index: u16) -> Option<Stats>
 }
 
 /// How a period stands, where one lives.
-fn state(store: &PeriodStore, index: u16) -> Option<PeriodState>
+fn phase(store: &PeriodStore, index: u16) -> Option<Phase>
     requires { IsOfGroup store.now.group index }
 {
     if store.is_live(index) {
-        Some(store.state(index))
+        Some(store.phase(index))
     } else {
         None
     }
@@ -216,8 +234,8 @@ fn a_period_is_that_of_its_creator(rt: HostRuntime) -> Result<(), Fail> {
     );
     assert_eq!(rt; cancel(&mut store, 64, by), reply(Status::Successful));
     assert_eq!(rt; cancel(&mut store, 64, by), reply(Status::Successful));
-    assert_eq!(rt; state(&store, 64), Some(PeriodState::Inactive));
-    assert_eq!(rt; stats(&store, 64), Some(Stats::none()));
+    assert_eq!(rt; phase(&store, 64), Some(Phase::Inactive));
+    assert_eq!(rt; stats(&store, 64), Some(no_stats()));
     assert_eq!(rt; remove(&mut store, 64), reply(Status::Successful));
     assert_eq!(rt; store.is_live(64), false);
     Ok(())
@@ -256,7 +274,7 @@ fn an_active_period_waits_for_its_end(rt: HostRuntime) -> Result<(), Fail> {
     );
     // The job that is cancelled isn't counted.
     assert_eq!(rt; cancel(&mut store, 1, by), reply(Status::Successful));
-    assert_eq!(rt; state(&store, 1), Some(PeriodState::Inactive));
+    assert_eq!(rt; phase(&store, 1), Some(Phase::Inactive));
     assert_eq!(rt; stats(&store, 1).map(|stats: Stats| stats.count), Some(1));
     Ok(())
 }
@@ -276,6 +294,18 @@ fn an_expired_period_catches_up(rt: HostRuntime) -> Result<(), Fail> {
         Some(Passed::Postponed(170))
     );
     assert_eq!(rt; call(&mut store, 0, 151, 76), Some(Status::Timeout));
+    assert_eq!(rt;
+        phase(&store, 6),
+        Some(Phase::Expired {
+            length: 20,
+            next_end: 170,
+            job: Job {
+                start: 110,
+                used: 43
+            },
+            postponed: 2,
+        })
+    );
     // The first job ends late, after 45 ticks of which it computed 37.
     assert_eq!(rt; call(&mut store, 30, 155, 80), Some(Status::Timeout));
     // The second ends late, after 1 tick, which it computed. Then none is postponed.

@@ -90,6 +90,8 @@ fn read_one(scenario: &Scenario, body: &Body, form: Op, a: &[u8]) -> Result<Op, 
         Op::TaskWakeAfter(_) => Ok(Op::TaskWakeAfter(any_operand(a)?)),
         Op::BarrierDelete(_) => Ok(Op::BarrierDelete(id_operand(a)?)),
         Op::PartDelete(_) => Ok(Op::PartDelete(id_operand(a)?)),
+        Op::PeriodCancel(_) => Ok(Op::PeriodCancel(id_operand(a)?)),
+        Op::PeriodDelete(_) => Ok(Op::PeriodDelete(id_operand(a)?)),
         _ => Err(ScenarioWhy::NotYetBuilt),
     }
 }
@@ -117,6 +119,9 @@ fn read_two(
         Op::PartIdent(_, _) => Ok(Op::PartIdent(name_operand(a)?, var_operand(b)?)),
         Op::PartGet(_, _) => Ok(Op::PartGet(id_operand(a)?, var_operand(b)?)),
         Op::PartReturn(_, _) => Ok(Op::PartReturn(id_operand(a)?, address_operand(b)?)),
+        Op::PeriodCreate(_, _) => Ok(Op::PeriodCreate(name0_operand(a)?, var_operand(b)?)),
+        Op::PeriodIdent(_, _) => Ok(Op::PeriodIdent(name_operand(a)?, var_operand(b)?)),
+        Op::PeriodPeriod(_, _) => Ok(Op::PeriodPeriod(id_operand(a)?, any_operand(b)?)),
         _ => Err(ScenarioWhy::NotYetBuilt),
     }
 }

@@ -195,6 +195,24 @@ fn refuses_lines_of_managers(rt: HostRuntime) -> Result<(), Fail> {
         "part.delete\n",
         "part.delete v8\n",
         "part.delete v0 v1\n",
+        "period.create AAAA\n",
+        "period.create AAAA v0 v1\n",
+        "period.create AAAAA v0\n",
+        "period.create AAAA v8\n",
+        "period.ident - v0\n",
+        "period.ident AAAA\n",
+        "period.ident AAAA v8\n",
+        "period.period v0\n",
+        "period.period v8 1\n",
+        "period.period v0 v1\n",
+        "period.period v0 nowait\n",
+        "period.period v0 4294967296\n",
+        "period.cancel\n",
+        "period.cancel v8\n",
+        "period.cancel v0 v1\n",
+        "period.delete\n",
+        "period.delete v8\n",
+        "period.delete v0 v1\n",
     ];
     let open = repeated(rt.alloc(), FRONT, "body b\n", 1, "")?;
     let tail = "end\nbody c\nend\n";
@@ -344,6 +362,19 @@ fn reads_lines_of_bodies(rt: HostRuntime) -> Result<(), Fail> {
             Op::PartReturn(Target::Var(1), Target::Given(4_294_967_295)),
         ),
         ("part.delete v3\n", Op::PartDelete(Target::Var(3))),
+        ("period.create T_1a v0\n", Op::PeriodCreate(name, 0)),
+        (
+            "period.create - v7\n",
+            Op::PeriodCreate(Name { bits: 0 }, 7),
+        ),
+        ("period.ident T_1a v4\n", Op::PeriodIdent(name, 4)),
+        ("period.period v1 0\n", Op::PeriodPeriod(Target::Var(1), 0)),
+        (
+            "period.period 0x42010001 0xffffffff\n",
+            Op::PeriodPeriod(Target::Given(0x4201_0001), 4_294_967_295),
+        ),
+        ("period.cancel self\n", Op::PeriodCancel(Target::Own)),
+        ("period.delete v3\n", Op::PeriodDelete(Target::Var(3))),
     ];
     let open = repeated(rt.alloc(), FRONT, "body a\nend\nbody b\nwork 1\n", 1, "")?;
     for (line, op) in rows {

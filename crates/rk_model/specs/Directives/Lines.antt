@@ -1,7 +1,7 @@
 -- What the lines of bodies are, by what stands there.
 use Rattle.std.specs.Prelude.{ℕ, Bool, true, false, Option, Some, None}
 use Rattle.rk_model.specs.declared.scenario.Op.{Op}
-use Rattle.rk_model.specs.declared.scenario.Op.TheVariants.{Work, Goto, TaskCreate, TaskIdent, TaskSetPriority, EventReceive, BarrierCreate, BarrierIdent, BarrierRelease, PartCreate, PartIdent, PartGet}
+use Rattle.rk_model.specs.declared.scenario.Op.TheVariants.{Work, Goto, TaskCreate, TaskIdent, TaskSetPriority, EventReceive, BarrierCreate, BarrierIdent, BarrierRelease, PartCreate, PartIdent, PartGet, PeriodCreate, PeriodIdent}
 
 -- What a line of a body is to a thread that arrives there: it computes for so many ticks, it is led to another line, or it acts by a directive.
 pub data Kind : Type 0 where
@@ -56,4 +56,6 @@ result_var (Some (BarrierRelease id var)) = Some var
 result_var (Some (PartCreate name start length size var)) = Some var
 result_var (Some (PartIdent name var)) = Some var
 result_var (Some (PartGet id var)) = Some var
+result_var (Some (PeriodCreate name var)) = Some var
+result_var (Some (PeriodIdent name var)) = Some var
 result_var o = None

@@ -1,8 +1,8 @@
 -- The directives of the task manager.
-use Rattle.std.specs.Prelude.{ℕ, Bool, true, false, ◌||◌, nat_lt, Option, Some, None, ◌==◌, if◌then◌else◌}
+use Rattle.std.specs.Prelude.{ℕ, Bool, true, false, ◌||◌, ◌&&◌, List, [], ◌∷◌, nat_lt, Option, Some, None, ◌==◌, if◌then◌else◌}
 use Rattle.rk_model.specs.declared.limits.TheConstants.{LEAST_URGENT}
 use Rattle.rk_model.specs.declared.status.Status.{Status}
-use Rattle.rk_model.specs.declared.status.Status.TheVariants.{Successful, TaskExitted, IncorrectState, AlreadySuspended, InvalidPriority}
+use Rattle.rk_model.specs.declared.status.Status.TheVariants.{Successful, TaskExitted, IncorrectState, AlreadySuspended, InvalidPriority, ResourceInUse}
 use Rattle.rk_model.specs.declared.ids.Class.TheVariants.{Task}
 use Rattle.rk_model.specs.declared.scenario.Target.{Target}
 use Rattle.rk_model.specs.declared.scenario.Target.TheVariants.{Var, Own, Given}
@@ -11,7 +11,7 @@ use Rattle.rk_model.specs.declared.state.Thread.{Thread}
 use Rattle.rk_model.specs.declared.state.Life.TheVariants.{Absent, Dormant, Started, Ended}
 use Rattle.rk_model.specs.declared.state.Wait.TheVariants.{ForTime}
 use Rattle.rk_model.specs.declared.state.Armer.TheVariants.{Thread as OfThread}
-use Rattle.rk_model.specs.State.{Plain, no_thread, thread_at, put_thread}
+use Rattle.rk_model.specs.State.{Plain, PeriodState, no_thread, thread_at, put_thread}
 use Rattle.rk_model.specs.Scheduling.Timers.{cancel}
 use Rattle.rk_model.specs.Directives.Objects.{object_of, create, ident, without_object}
 use Rattle.rk_model.specs.Scheduling.Priorities.{home_prio}
@@ -91,10 +91,19 @@ task_set_priority k t id prio =
 abbrev pub without_task : Plain → ℕ → Plain
 without_task k u = without_object (put_thread (cancel (leave k u) (thread_at k u).home (OfThread u)) u no_thread) Task u
 
--- task.delete (rtems_task_delete): INVALID_ID where the task is unknown; else it leaves its queue, its timer is cancelled and it lives no longer. A caller that deletes itself has no next line.
+-- whether a thread created one of these periods that lives
+abbrev pub has_created : List PeriodState → ℕ → Bool
+has_created [] u = false
+has_created (period ∷ periods) u = (period.live && (period.creator == u)) || has_created periods u
+
+-- a task is deleted, which a caller that deletes itself doesn't outlive
+abbrev pub task_removed : Plain → ℕ → ℕ → Outcome
+task_removed k t u = if u == t then Gone Successful (without_task k u) else done 0 (without_task k u)
+
+-- task.delete (rtems_task_delete): INVALID_ID where the task is unknown; RESOURCE_IN_USE where it created a period that lives; else it leaves its queue, its timer is cancelled and it lives no longer. A caller that deletes itself has no next line.
 abbrev pub task_delete : Plain → ℕ → Target → Outcome
 task_delete k t id =
-    on_found (task_named k t id) (λ u. if u == t then Gone Successful (without_task k u) else done 0 (without_task k u))
+    on_found (task_named k t id) (λ u. if has_created k.periods u then Refused ResourceInUse else task_removed k t u)
 
 -- task.exit (rtems_task_exit): the task is ended, and stays at its place.
 abbrev pub task_exit : Plain → ℕ → Outcome

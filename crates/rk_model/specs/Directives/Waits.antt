@@ -5,7 +5,7 @@ use Rattle.rk_model.specs.declared.status.Status.{Status}
 use Rattle.rk_model.specs.declared.status.Status.TheVariants.{Successful, Timeout}
 use Rattle.rk_model.specs.declared.state.Armer.TheVariants.{Thread as OfThread}
 use Rattle.rk_model.specs.declared.state.Wait.{Wait}
-use Rattle.rk_model.specs.declared.state.Wait.TheVariants.{ForTime, ForEvents, AtBarrier}
+use Rattle.rk_model.specs.declared.state.Wait.TheVariants.{ForTime, ForEvents, AtBarrier, ForPeriod}
 use Rattle.rk_model.specs.Lists.{nth, with_nth}
 use Rattle.rk_model.specs.State.{Plain, BarrierState, no_barrier, thread_at, put_thread}
 use Rattle.rk_model.specs.Scheduling.Timers.{arm, cancel}
@@ -24,6 +24,7 @@ object_of_wait None = None
 object_of_wait (Some ForTime) = None
 object_of_wait (Some (ForEvents set all)) = None
 object_of_wait (Some (AtBarrier i)) = Some (OfBarrier i)
+object_of_wait (Some (ForPeriod i)) = None
 
 -- whether a thread that waits for this stands in the queue of an object
 abbrev pub is_for : Option Object → Object → Bool
@@ -93,3 +94,4 @@ reply_at_timer None = bare Successful
 reply_at_timer (Some ForTime) = bare Successful
 reply_at_timer (Some (ForEvents set all)) = bare Timeout
 reply_at_timer (Some (AtBarrier i)) = bare Timeout
+reply_at_timer (Some (ForPeriod i)) = bare Timeout

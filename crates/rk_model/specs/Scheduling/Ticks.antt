@@ -11,6 +11,7 @@ use Rattle.rk_model.specs.Scheduling.Running.{runs_somewhere}
 use Rattle.rk_model.specs.Scheduling.Timers.{due_at, take_due}
 use Rattle.rk_model.specs.Directives.Outcomes.{gone_on}
 use Rattle.rk_model.specs.Directives.Waits.{end_wait, reply_at_timer}
+use Rattle.rk_model.specs.Directives.Periods.{end_passed}
 
 -- A thread that runs through a tick: where it computes, its work left falls by one and its count of computed ticks rises by one, and with no work left it goes on to its next line.
 abbrev pub charged : Scenario → Thread → Thread
@@ -32,10 +33,10 @@ charge_from k t (thread ∷ threads) = ticked k t thread ∷ charge_from k (t + 
 abbrev pub pass : Plain → Plain
 pass k = record k { present = k.present + 1; threads = charge_from k 1 k.threads }
 
--- the state in which a timer of this one has fired: the wait of its thread has ended; no period has a timer so far
+-- the state in which a timer of this one has fired: the wait of its thread has ended, or the end of its period has passed
 abbrev pub rung : Plain → Armer → Plain
 rung k (OfThread t) = end_wait k t (reply_at_timer (thread_at k t).wait)
-rung k (OfPeriod i) = k
+rung k (OfPeriod i) = end_passed k i
 
 -- the state in which the first timer of a cluster that is due now is taken out and has fired
 abbrev pub expire : Plain → ℕ → Armer → Plain

@@ -7,7 +7,7 @@ use Rattle.rk_model.specs.declared.numbers.Name.{Name as NameOf}
 use Rattle.rk_model.specs.declared.scenario.Target.{Target}
 use Rattle.rk_model.specs.declared.scenario.Wish.{Wish as WishOf}
 use Rattle.rk_model.specs.declared.scenario.Op.{Op}
-use Rattle.rk_model.specs.declared.scenario.Op.TheVariants.{Work, Goto, TaskCreate, TaskIdent, TaskStart, TaskSuspend, TaskResume, TaskSetPriority, TaskDelete, TaskWakeAfter, EventSend, EventReceive, BarrierCreate, BarrierIdent, BarrierWait, BarrierRelease, BarrierDelete, PartCreate, PartIdent, PartGet, PartReturn, PartDelete}
+use Rattle.rk_model.specs.declared.scenario.Op.TheVariants.{Work, Goto, TaskCreate, TaskIdent, TaskStart, TaskSuspend, TaskResume, TaskSetPriority, TaskDelete, TaskWakeAfter, EventSend, EventReceive, BarrierCreate, BarrierIdent, BarrierWait, BarrierRelease, BarrierDelete, PartCreate, PartIdent, PartGet, PartReturn, PartDelete, PeriodCreate, PeriodIdent, PeriodPeriod, PeriodCancel, PeriodDelete}
 
 -- What a word behind the first stands for.
 pub data Operand : Type 0 where
@@ -85,6 +85,11 @@ form_of (PartIdent name var) = Row (codes "part.ident") (Name ∷ Var ∷ []) Pa
 form_of (PartGet id var) = Row (codes "part.get") (Id ∷ Var ∷ []) PartGet
 form_of (PartReturn id address) = Row (codes "part.return") (Id ∷ Address ∷ []) PartReturn
 form_of (PartDelete id) = Row (codes "part.delete") (Id ∷ []) PartDelete
+form_of (PeriodCreate name var) = Row (codes "period.create") (Name0 ∷ Var ∷ []) PeriodCreate
+form_of (PeriodIdent name var) = Row (codes "period.ident") (Name ∷ Var ∷ []) PeriodIdent
+form_of (PeriodPeriod id length) = Row (codes "period.period") (Id ∷ Any ∷ []) PeriodPeriod
+form_of (PeriodCancel id) = Row (codes "period.cancel") (Id ∷ []) PeriodCancel
+form_of (PeriodDelete id) = Row (codes "period.delete") (Id ∷ []) PeriodDelete
 
 -- the first word of a form
 abbrev pub word_in : Form → List ℕ

@@ -4,10 +4,10 @@ use Rattle.rk_model.specs.Directives.Objects.{has_begun}
 use Rattle.rk_model.specs.Scheduling.Ticks.{charged}
 use Rattle.rk_parts.specs.Joined.{plain_of}
 use Rattle.rk_parts.proofs.LentSeatLemmas.{cpu_count_joined}
-use Rattle.rk_kernel.proofs.ThreadBoundsLemmas.{bounds_at}
+use Rattle.rk_directives.proofs.ThreadBoundsLemmas.{bounds_at}
 use Rattle.rk_kernel.proofs.TickLemmas.{charged_steady}
 use Rattle.rk_kernel.proofs.ChargeLemmas.{laid_charged, uncharged, charged_lives, one_charged, none_more_charged, all_charged}
-use Rattle.rk_kernel.proofs.DirectiveLemmas.LentLemmas.{puts_state}
+use Rattle.rk_directives.proofs.DirectiveLemmas.LentLemmas.{puts_state}
 use Rattle.rk_kernel.proofs.clock.charge_all.Goals as goal
 use Rattle.rk_kernel.proofs.clock.charge_all.Goals.{in-Runs, in_default}
 

@@ -2,7 +2,7 @@ use Rattle.std.proofs.Common.{refl, ap, ◌∙◌}
 use Rattle.rk_model.specs.Scheduling.Timers.{head_of}
 use Rattle.rk_parts.specs.Joined.{plain_of}
 use Rattle.rk_kernel.proofs.PartsSettledLemmas.{part_found}
-use Rattle.rk_kernel.proofs.FiringLemmas.{unchanged, fires_none, fires_some, due_lent, due_lives, ready_same, fired}
+use Rattle.rk_kernel.proofs.FiringLemmas.{unchanged, fires_none, fires_some, due_lent, due_rings, ready_same, fired}
 use Rattle.rk_kernel.proofs.clock.fire_first.Goals as goal
 
 pub take_due_of-requires : goal.take_due_of-requires
@@ -12,7 +12,7 @@ pub rung-requires : goal.rung-requires
 rung-requires c =
     let all = c.args.all.now in
     let first = c.in-Some.ensures.first ∙ ap head_of (due_lent all c.args.cluster c.requires.ready c.requires.cluster) in
-    due_lives all c.take_due_of.new.clusters c.args.cluster c.in-Some.timer c.requires.ready c.requires.cluster first c.in-Some.ensures.taken
+    due_rings all c.take_due_of.new.clusters c.args.cluster c.in-Some.timer c.requires.ready c.requires.cluster first c.in-Some.ensures.taken
 
 pub returns-in-None : goal.returns-in-None
 returns-in-None c =

@@ -3,8 +3,8 @@ use Rattle.rk_model.specs.declared.scenario.Scenario.{Scenario}
 use Rattle.rk_model.specs.State.{Plain}
 use Rattle.rk_parts.specs.Joined.{plain_of}
 use Rattle.rk_parts.specs.Noted.{AreNoted}
-use Rattle.rk_kernel.specs.Does.{Untouched}
-use Rattle.rk_kernel.specs.Sound.{IsSound}
+use Rattle.rk_directives.specs.Does.{Untouched}
+use Rattle.rk_directives.specs.Sound.{IsSound}
 use Rattle.rk_kernel.proofs.TickLemmas.{sound_pass}
 use Rattle.rk_kernel.proofs.PartsSettledLemmas.{whole_kept}
 use Rattle.rk_kernel.proofs.clock.pass.Goals as goal

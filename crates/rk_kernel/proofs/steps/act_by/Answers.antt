@@ -8,10 +8,10 @@ use Rattle.rk_model.specs.Steps.{action}
 use Rattle.rk_parts.specs.declared.parts.AllParts.{AllParts}
 use Rattle.rk_parts.specs.Joined.{plain_of}
 use Rattle.rk_parts.specs.Lent.{Frame, AreLaid, layouts}
-use Rattle.rk_kernel.specs.Does.{Untouched}
+use Rattle.rk_directives.specs.Does.{Untouched}
 use Rattle.rk_kernel.proofs.CallerLemmas.{acting_of}
-use Rattle.rk_kernel.proofs.DirectiveLemmas.LentLemmas.{laid_kept}
-use Rattle.rk_kernel.proofs.DirectiveLemmas.ActionLemmas.{action_done, line_after, bodies_after, lives_after, followed}
+use Rattle.rk_directives.proofs.DirectiveLemmas.LentLemmas.{laid_kept}
+use Rattle.rk_directives.proofs.DirectiveLemmas.ActionLemmas.{action_done, line_after, bodies_after, lives_after, followed}
 use Rattle.rk_kernel.proofs.PartsSettledLemmas.{IsChanged, settled}
 use Rattle.rk_kernel.proofs.steps.act_by.Goals as goal
 
@@ -44,7 +44,7 @@ returns c =
     let ends = c.conclude-reply.ensures.next in
     let is = followed k t o c.action-answer.result (plain_of done) (plain_of mid) c.action-answer.ensures.told c.action-answer.ensures.state (ends.state done.table.names done.groups lies) in
     let changed : IsChanged all mid (after_outcome k t o) = record {
-      gentle = (action_done k t acts).after;
+      settles = (action_done k t acts).after;
       state = is;
       laid = laid_kept all.scenario.clusters done.clusters mid.clusters ends.kept c.action-answer.ensures.laid;
       kept = ap (λ (f : Frame). f.stored) ends.kept ∙ c.action-answer.ensures.kept;

@@ -1,7 +1,7 @@
-use Rattle.std.proofs.Common.{◌≡◌, [], ◌∷◌}
-use Rattle.std.specs.List.{repeat}
-use Rattle.rk_period.specs.Periods.{no_stored}
+use Rattle.std.proofs.Common.{◌≡◌}
+use Rattle.rk_model.specs.State.{no_period}
+use Rattle.rk_places.specs.Stores.{vacant_items}
 use Rattle.rk_period.proofs.store.PeriodStore.new.Given as goal
 
 abbrev pub invariant-loop-made : goal.invariant-loop-made
-invariant-loop-made l = l.slots.items ≡ repeat l._made (no_stored ∷ [])
+invariant-loop-made l = l.places ≡ vacant_items no_period l.group l._made

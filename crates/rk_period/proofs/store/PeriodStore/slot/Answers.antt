@@ -1,8 +1,9 @@
-use Rattle.rk_period.specs.Periods.{IsOfGroup}
-use Rattle.rk_period.proofs.PeriodPlaceLemmas.{stored_there}
+use Rattle.rk_model.specs.State.{no_period}
+use Rattle.rk_places.specs.Stores.{IsOfGroup}
+use Rattle.rk_places.proofs.PlaceLemmas.{stored_there}
 use Rattle.rk_period.proofs.store.PeriodStore.slot.Goals as goal
 
 pub returns : goal.returns
 returns c =
-    let is : IsOfGroup c.self.inside.group c.args.index = rw (← c.self.view_is) at c.requires in
-    rw (← c.self.view_is) (stored_there c.self.inside.group c.self.inside.slots.items c.args.index c.place_at.result c.index.result.now c.self.invariant is c.place_at.ensures c.index.ensures)
+    let is : IsOfGroup c.self.inside.places.group c.args.index = rw (← c.self.view_is) at c.requires in
+    rw (← c.self.view_is) (stored_there no_period c.self.inside.places c.args.index c.at.result.now c.self.invariant is c.at.ensures)

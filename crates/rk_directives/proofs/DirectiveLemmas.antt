@@ -1,0 +1,11 @@
+pub mod LentLemmas
+pub mod TasksLemmas
+pub mod EventsLemmas
+pub mod ObjectsLemmas
+pub mod BarriersLemmas
+pub mod LentBarriersLemmas
+pub mod PartitionsLemmas
+pub mod PeriodsLemmas
+pub mod LentPeriodsLemmas
+pub mod KeptPeriodsLemmas
+pub mod ActionLemmas

@@ -1,0 +1,9 @@
+pub mod NamesAgreeLemmas
+pub mod PeriodSoundLemmas
+pub mod PeriodsKeptLemmas
+pub mod ThreadBoundsLemmas
+pub mod TimerLemmas
+pub mod TieLemmas
+pub mod GentleChangeLemmas
+pub mod OutcomeLemmas
+pub mod DirectiveLemmas

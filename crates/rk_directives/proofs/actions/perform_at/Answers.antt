@@ -1,0 +1,8 @@
+use Rattle.rk_directives.proofs.DirectiveLemmas.LentLemmas.{all_narrow}
+use Rattle.rk_directives.proofs.actions.perform_at.Goals as goal
+
+pub returns-in-Some : goal.returns-in-Some
+returns-in-Some c = rw c.in-Some.is c.perform.ensures
+
+pub returns-in-None : goal.returns-in-None
+returns-in-None c = rw c.in-None.is (all_narrow c.args.all.now _ _ _ c.requires.whole (c.task_exit.ensures c.args.all.now.scenario))

@@ -1,0 +1,47 @@
+use Rattle.rk_directives.proofs.DirectiveLemmas.LentLemmas.{does_both}
+use Rattle.rk_directives.proofs.actions.perform_narrow.Goals as goal
+
+pub returns-in-TaskStart : goal.returns-in-TaskStart
+returns-in-TaskStart c = rw c.in-TaskStart.is (does_both _ _ _ _ _ _ c.task_start.ensures)
+
+pub returns-in-TaskSuspend : goal.returns-in-TaskSuspend
+returns-in-TaskSuspend c = rw c.in-TaskSuspend.is (does_both _ _ _ _ _ _ (c.task_suspend.ensures c.args.scenario.now))
+
+pub returns-in-TaskResume : goal.returns-in-TaskResume
+returns-in-TaskResume c = rw c.in-TaskResume.is (does_both _ _ _ _ _ _ (c.task_resume.ensures c.args.scenario.now))
+
+pub returns-in-TaskSetPriority : goal.returns-in-TaskSetPriority
+returns-in-TaskSetPriority c = rw c.in-TaskSetPriority.is (does_both _ _ _ _ _ _ (c.task_set_priority.ensures c.args.scenario.now))
+
+pub returns-in-TaskWakeAfter : goal.returns-in-TaskWakeAfter
+returns-in-TaskWakeAfter c = rw c.in-TaskWakeAfter.is (does_both _ _ _ _ _ _ (c.task_wake_after.ensures c.args.scenario.now))
+
+pub returns-in-EventReceive : goal.returns-in-EventReceive
+returns-in-EventReceive c = rw c.in-EventReceive.is (does_both _ _ _ _ _ _ (c.event_receive.ensures c.args.scenario.now))
+
+pub returns-in-Work : goal.returns-in-Work
+returns-in-Work c = rw c.in-Work.is (does_both _ _ _ _ _ _ (c.task_exit.ensures c.args.scenario.now))
+
+pub returns-in-Goto : goal.returns-in-Goto
+returns-in-Goto c = rw c.in-Goto.is (does_both _ _ _ _ _ _ (c.task_exit-in-Goto.ensures c.args.scenario.now))
+
+pub returns-in-EventSend : goal.returns-in-EventSend
+returns-in-EventSend c = rw c.in-EventSend.is (c.event_send.ensures c.args.scenario.now)
+
+pub returns-in-BarrierWait : goal.returns-in-BarrierWait
+returns-in-BarrierWait c = rw c.in-BarrierWait.is (c.barrier_wait.ensures c.args.scenario.now)
+
+pub returns-in-BarrierRelease : goal.returns-in-BarrierRelease
+returns-in-BarrierRelease c = rw c.in-BarrierRelease.is (c.barrier_release.ensures c.args.scenario.now)
+
+pub returns-in-PartGet : goal.returns-in-PartGet
+returns-in-PartGet c = rw c.in-PartGet.is (c.partition_get.ensures c.args.scenario.now)
+
+pub returns-in-PartReturn : goal.returns-in-PartReturn
+returns-in-PartReturn c = rw c.in-PartReturn.is (c.partition_return.ensures c.args.scenario.now)
+
+pub returns-in-PeriodPeriod : goal.returns-in-PeriodPeriod
+returns-in-PeriodPeriod c = rw c.in-PeriodPeriod.is (c.period_period.ensures c.args.scenario.now)
+
+pub returns-in-PeriodCancel : goal.returns-in-PeriodCancel
+returns-in-PeriodCancel c = rw c.in-PeriodCancel.is (c.period_cancel.ensures c.args.scenario.now)

@@ -1,0 +1,5 @@
+pub mod SoundPeriods
+pub mod Sound
+pub mod Does
+pub mod Calls
+pub mod Refusals

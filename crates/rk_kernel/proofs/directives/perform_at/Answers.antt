@@ -1,8 +1,0 @@
-use Rattle.rk_kernel.proofs.DirectiveLemmas.LentLemmas.{all_narrow}
-use Rattle.rk_kernel.proofs.directives.perform_at.Goals as goal
-
-pub returns-in-Some : goal.returns-in-Some
-returns-in-Some c = rw c.in-Some.is c.perform.ensures
-
-pub returns-in-None : goal.returns-in-None
-returns-in-None c = rw c.in-None.is (all_narrow c.args.all.now _ _ _ c.requires.whole (c.task_exit.ensures c.args.all.now.scenario))

@@ -1,2 +1,0 @@
-pub mod PeriodPlaceLemmas
-pub mod PeriodStoreLemmas
