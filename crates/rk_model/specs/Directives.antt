@@ -7,3 +7,4 @@ pub mod Events
 pub mod Barriers
 pub mod Partitions
 pub mod Periods
+pub mod Semaphores

@@ -1,4 +1,5 @@
 pub mod Priorities
+pub mod Chains
 pub mod ReadyQueues
 pub mod Settling
 pub mod Running

@@ -21,6 +21,13 @@ pub const ALIGNMENT: u32 = 8;
 /// How many addresses there are: the memory of a partition ends at most there.
 pub const ADDRESSES: u64 = 4_294_967_296;
 
+/// The greatest count of a counting semaphore.
+pub const MOST_COUNT: u32 = 4_294_967_295;
+
+/// The greatest nesting of a binary semaphore: as many times its owner can have obtained it without
+/// releasing it.
+pub const MOST_NESTING: u64 = 18_446_744_073_709_551_615;
+
 /// The number of the least urgent priority. The most urgent is 1.
 pub const LEAST_URGENT: u8 = 255;
 

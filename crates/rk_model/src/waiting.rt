@@ -3,6 +3,7 @@
 ghost use Rattle.std.specs.Prelude.{◌≡◌, ◌<◌, [], ◌∷◌, ◌++◌, length, IfOk};
 
 use crate::bounded::Bounded;
+use crate::keyed::Keyed;
 use crate::limits::MOST_OBJECTS;
 use crate::memory::NoMemory;
 use crate::numbers::{Prio, ThreadIx};
@@ -28,6 +29,29 @@ pub struct Caller {
     pub home: u8,
     /// Its priority in its home.
     pub prio: Prio,
+}
+
+/// A thread that waits in a queue.
+#[derive(Clone, Copy, Debug, PartialEq, Eq)]
+pub struct Waiter {
+    /// The thread.
+    pub thread: ThreadIx,
+    /// The number of its cluster, by whose turns it is served where the order is `Priority`.
+    pub cluster: u8,
+    /// Its priority in the queue.
+    pub prio: Prio,
+}
+
+impl Keyed for Waiter {
+    type Key = ThreadIx;
+
+    ghost use Rattle.std.specs.Prelude.{◌==◌};
+
+    ghost is_of = { λ waiter thread. waiter.thread == thread };
+
+    fn has_key(&self, key: ThreadIx) -> bool {
+        self.thread == key
+    }
 }
 
 /// The end of a thread's wait.

@@ -18,10 +18,10 @@ use Rattle.rk_model.specs.Directives.Barriers.{is_full}
 use Rattle.rk_model.specs.Directives.Waits.{leave, object_of_wait, without, without_arrival}
 use Rattle.rk_model.proofs.IndexLemmas.{nth-with_other, nth-with_same}
 use Rattle.rk_queue.proofs.QueueLemmas.{threads-append, length-threads}
-use Rattle.rk_queue.specs.declared.queue.Waiter.{Waiter}
-use Rattle.rk_queue.specs.Queues.{threads, waits_in, without as without_thread}
+use Rattle.rk_model.specs.declared.waiting.Waiter.{Waiter}
+use Rattle.rk_model.specs.Queues.{threads, waits_in, waiter_of, ended, without as without_thread}
 use Rattle.rk_places.specs.Stores.{Store, IsOfGroup, IsStoreOf, stored_at, put_at}
-use Rattle.rk_signal.specs.Barriers.{Stored, no_stored, emptied, waiter_of, with_waiter, without_waiter, ended, is_filled, waited, woken_by_wait, reply_to_wait}
+use Rattle.rk_signal.specs.Barriers.{Stored, no_stored, emptied, with_waiter, without_waiter, is_filled, waited, woken_by_wait, reply_to_wait}
 use Rattle.rk_parts.specs.declared.parts.ClusterPart.{ClusterPart}
 use Rattle.rk_parts.specs.declared.parts.GroupPart.{GroupPart}
 use Rattle.rk_parts.specs.Joined.{barrier_of, barrier_group, barrier_in, barrier_held, barriers_of, barrier_lent, partition_group, partition_in, period_group, period_in, joined, thread_lent}

@@ -10,7 +10,7 @@ use Rattle.rk_model.specs.Lists.{with_nth}
 use Rattle.rk_model.specs.State.{BarrierState, PartitionState, PeriodState}
 use Rattle.rk_model.specs.Directives.Barriers.{is_full}
 use Rattle.rk_model.specs.Directives.Waits.{Object, OfBarrier, bare, object_of_wait, without_arrival}
-use Rattle.rk_queue.specs.Queues.{waits_in}
+use Rattle.rk_model.specs.Queues.{waits_in}
 use Rattle.rk_places.specs.Stores.{Store, group_of, stored_at, put_at}
 use Rattle.rk_signal.specs.Barriers.{Stored, no_stored, without_waiter}
 use Rattle.rk_parts.specs.declared.parts.GroupPart.{GroupPart}

@@ -11,7 +11,7 @@ use Rattle.rk_model.specs.State.{Plain, ClusterState, BarrierState, PartitionSta
 use Rattle.rk_model.specs.Histories.{free_cluster}
 use Rattle.rk_model.specs.Directives.Objects.{has_begun}
 use Rattle.rk_line.specs.Places.{threads}
-use Rattle.rk_queue.specs.Queues.{threads as waiting}
+use Rattle.rk_model.specs.Queues.{threads as waiting}
 use Rattle.rk_places.specs.Stores.{group_of, stored_at}
 use Rattle.rk_signal.specs.Barriers.{Stored, no_stored}
 use Rattle.rk_parts.specs.declared.parts.ClusterPart.{ClusterPart}

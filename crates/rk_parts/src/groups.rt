@@ -9,9 +9,9 @@ ghost use Rattle.rk_model.specs.Lists.{has};
 ghost use Rattle.rk_model.specs.State.{no_barrier};
 ghost use Rattle.rk_model.specs.Directives.Barriers.{new_barrier};
 ghost use Rattle.rk_model.specs.Directives.Waits.{object_of_wait};
-ghost use Rattle.rk_queue.specs.Queues.{waits_in};
+ghost use Rattle.rk_model.specs.Queues.{waits_in, ended};
 ghost use Rattle.rk_places.specs.Stores.{IsOfGroup, IsStoreOf, stored_at, put_at};
-ghost use Rattle.rk_signal.specs.Barriers.{no_stored, emptied, ended, successful, waited, woken_by_wait, reply_to_wait};
+ghost use Rattle.rk_signal.specs.Barriers.{no_stored, emptied, successful, waited, woken_by_wait, reply_to_wait};
 ghost use Rattle.rk_parts.specs.Joined.{barrier_lent};
 ghost use Rattle.rk_parts.specs.Groups.{group_at, group_in, is_lent, wakes_at, PutsBarrier, Leaves, ended_waits, waited_at, woken_at, reply_at, barrier_object, left_at};
 

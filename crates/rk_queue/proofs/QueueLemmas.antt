@@ -8,8 +8,8 @@ use Rattle.rk_model.specs.Lists.{has, times}
 use Rattle.rk_model.proofs.BooleanLemmas.{equal_test, same_number}
 use Rattle.rk_model.proofs.CountLemmas.{times-append, times-has, has_times, times_none, has_none, has-append, times-filter, length_within, length_by_times}
 use Rattle.rk_model.proofs.KeyLemmas.{has_position, position_at, position_within, times-without, alone_by, removed, without_none}
-use Rattle.rk_queue.specs.declared.queue.Waiter.{Waiter}
-use Rattle.rk_queue.specs.Queues.{threads, clusters, without, cluster_of, with_prio, with_turn, without_turn, turns_kept, turns_taken, IsQueue}
+use Rattle.rk_model.specs.declared.waiting.Waiter.{Waiter}
+use Rattle.rk_model.specs.Queues.{threads, clusters, without, cluster_of, with_prio, with_turn, without_turn, turns_kept, turns_taken, IsQueue}
 
 -- what waiters are known by
 abbrev pub key : Waiter → ℕ

@@ -7,8 +7,8 @@ use Rattle.rk_model.specs.declared.waiting.Order.{Order}
 use Rattle.rk_model.specs.declared.waiting.Order.TheVariants.{Fifo, Priority}
 use Rattle.rk_model.specs.Lists.{has, times}
 use Rattle.rk_model.proofs.BooleanLemmas.{equal_test}
-use Rattle.rk_queue.specs.declared.queue.Waiter.{Waiter}
-use Rattle.rk_queue.specs.Queues.{threads, clusters, of_cluster, of_prio, lesser, least_prio, earliest, earliest_of, most_urgent, first_in, IsQueue}
+use Rattle.rk_model.specs.declared.waiting.Waiter.{Waiter}
+use Rattle.rk_model.specs.Queues.{threads, clusters, of_cluster, of_prio, lesser, least_prio, earliest, earliest_of, most_urgent, first_in, IsQueue}
 
 -- the lesser of two priorities, if there are any
 abbrev pub least_of : Option ℕ → Option ℕ → Option ℕ

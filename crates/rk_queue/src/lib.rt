@@ -5,4 +5,4 @@ mod queue;
 #[cfg(test)]
 mod tests;
 
-pub use queue::{ThreadQueue, Waiter};
+pub use queue::ThreadQueue;

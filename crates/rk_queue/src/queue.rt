@@ -1,35 +1,14 @@
 ghost use Rattle.std.specs.Prelude.{◌≡◌, ◌≤◌, ◌<◌, [], ◌∷◌, ◌==◌, Some, true, false, IfOk, IfSome, IfNone, length};
 ghost use Rattle.std.specs.List.{position_or_len};
 ghost use Rattle.rk_model.specs.Lists.{has, times};
-ghost use Rattle.rk_queue.specs.Queues.{Queue, empty, threads, clusters, waits_in, without, cluster_of, without_turn, with_turn, turns_kept, turns_taken, entered, left_by, reordered, earliest, of_cluster, of_prio, lesser, least_prio, first_by_turns, first_of, served, served_by, IsQueue};
+ghost use Rattle.rk_model.specs.Queues.{Queue, empty, threads, clusters, waits_in, without, cluster_of, without_turn, with_turn, turns_kept, turns_taken, entered, left_by, reordered, earliest, of_cluster, of_prio, lesser, least_prio, first_by_turns, first_of, served, served_by, ended, IsQueue};
 
 use rk_model::limits::MOST_OBJECTS;
-use rk_model::{Bounded, Keyed, NoMemory, Order, Prio, ThreadIx, position_of};
+use rk_model::{
+    Bounded, NoMemory, Order, Prio, Status, ThreadIx, Waiter, Wake, Wakes, position_of,
+};
 use std::alloc::Global;
 use std::marker::Model;
-
-/// A thread that waits in a queue.
-#[derive(Clone, Copy, Debug, PartialEq, Eq)]
-pub struct Waiter {
-    /// The thread.
-    pub thread: ThreadIx,
-    /// The number of its cluster, by whose turns it is served where the order is `Priority`.
-    pub cluster: u8,
-    /// Its priority in the queue.
-    pub prio: Prio,
-}
-
-impl Keyed for Waiter {
-    type Key = ThreadIx;
-
-    ghost use Rattle.std.specs.Prelude.{◌==◌};
-
-    ghost is_of = { λ waiter thread. waiter.thread == thread };
-
-    fn has_key(&self, key: ThreadIx) -> bool {
-        self.thread == key
-    }
-}
 
 /// A queue of at most 64 threads, each of which waits in it once, and the turns of their clusters,
 /// of which each has one. Contracts see the waiters in order of arrival, the order in which they
@@ -42,7 +21,7 @@ pub struct ThreadQueue {
 }
 
 impl Model for ThreadQueue {
-    ghost use Rattle.rk_queue.specs.Queues.{Queue, IsQueue};
+    ghost use Rattle.rk_model.specs.Queues.{Queue, IsQueue};
 
     ghost Value = { Queue };
 
@@ -181,12 +160,34 @@ impl ThreadQueue {
         );
     }
 
+    /// Adds a wake with a status for each waiter, in order of arrival.
+    pub fn wake_all(&self, status: Status, wakes: &mut Wakes)
+        requires { wakes.old ≡ [] }
+        ensures { wakes.new ≡ ended status self.now.arrivals }
+    {
+        let _count = self.len();
+        for waiter in self.waiters() {
+            wakes.push(Wake {
+                thread: waiter.thread,
+                status,
+                out: 0,
+            });
+        }
+    }
+
+    /// Takes all threads out.
+    pub fn clear(&mut self)
+        ensures { self.new ≡ empty self.old.order }
+    {
+        self.arrivals.clear();
+        self.turns.clear();
+    }
+
     /// Takes all threads out, and gives the queue an order.
     pub fn reset(&mut self, order: Order)
         ensures { self.new ≡ empty order }
     {
-        self.arrivals.clear();
-        self.turns.clear();
+        self.clear();
         self.order = order;
     }
 }

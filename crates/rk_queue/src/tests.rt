@@ -1,7 +1,7 @@
 ghost use Rattle.std.specs.Prelude.{◌≡◌, ◌≤◌};
 
-use crate::{ThreadQueue, Waiter};
-use rk_model::{NoMemory, Order, Prio, ThreadIx};
+use crate::ThreadQueue;
+use rk_model::{NoMemory, Order, Prio, ThreadIx, Waiter};
 use std::test::Fail;
 
 /// A waiter of a thread, a cluster and a priority.

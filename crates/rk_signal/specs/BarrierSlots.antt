@@ -1,6 +1,6 @@
 -- What the code has of a barrier, as the definitions see it.
 use Rattle.std.specs.Prelude.{true, false, Option, Some, None}
-use Rattle.rk_queue.specs.Queues.{Queue}
+use Rattle.rk_model.specs.Queues.{Queue}
 use Rattle.rk_signal.specs.declared.slot.Barrier.{Barrier}
 use Rattle.rk_signal.specs.Barriers.{Stored}
 

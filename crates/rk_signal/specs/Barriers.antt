@@ -1,13 +1,11 @@
 -- What the directives of the barrier manager do to the barriers of a group.
-use Rattle.std.specs.Prelude.{ℕ, ◌≡◌, ◌+◌, Bool, true, false, ◌&&◌, List, [], length, map, nat_le, if◌then◌else◌}
+use Rattle.std.specs.Prelude.{ℕ, ◌≡◌, ◌+◌, Bool, true, false, ◌&&◌, List, [], length, nat_le, if◌then◌else◌}
 use Rattle.rk_model.specs.declared.entry.Reply.{Reply}
-use Rattle.rk_model.specs.declared.status.Status.{Status}
 use Rattle.rk_model.specs.declared.status.Status.TheVariants.{Successful, Waits}
 use Rattle.rk_model.specs.declared.waiting.Caller.{Caller}
 use Rattle.rk_model.specs.declared.waiting.Order.TheVariants.{Fifo}
 use Rattle.rk_model.specs.declared.waiting.Wake.{Wake}
-use Rattle.rk_queue.specs.declared.queue.Waiter.{Waiter}
-use Rattle.rk_queue.specs.Queues.{Queue, empty, entered, left_by}
+use Rattle.rk_model.specs.Queues.{Queue, empty, waiter_of, entered, left_by, ended}
 
 -- A place for a barrier: whether a barrier lives there, whether it is automatic, at how many waiters it is released then, and the queue of the threads that wait at it.
 pub record Stored : Type 0 where
@@ -28,10 +26,6 @@ barrier automatic most = record { live = true; automatic = automatic; most = mos
 abbrev pub IsStored : Stored → Type 0
 IsStored stored = stored.live ≡ false → stored ≡ no_stored
 
--- the waiter as which a task waits
-abbrev pub waiter_of : Caller → Waiter
-waiter_of by = record { thread = by.thread; cluster = by.home; prio = by.prio }
-
 -- the place with one more waiter
 abbrev pub with_waiter : Caller → Stored → Stored
 with_waiter by stored = record stored { queue = entered (waiter_of by) stored.queue }
@@ -43,10 +37,6 @@ without_waiter thread stored = record stored { queue = left_by thread stored.que
 -- the place at which none waits any more
 abbrev pub emptied : Stored → Stored
 emptied stored = record stored { queue = empty Fifo }
-
--- the waits of these waiters ended with a status and without an out number, in order of arrival
-abbrev pub ended : Status → List Waiter → List Wake
-ended status waiters = map (λ (waiter : Waiter). record { thread = waiter.thread; status = status; out = 0 }) waiters
 
 -- whether one more waiter releases the barrier: it is automatic, and the waiters and this one are enough
 abbrev pub is_filled : Stored → Bool

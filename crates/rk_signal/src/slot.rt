@@ -1,11 +1,11 @@
 ghost use Rattle.std.specs.Prelude.{◌≡◌, ◌+◌, [], ◌∷◌, true, false, length, IfOk};
 ghost use Rattle.rk_model.specs.declared.status.Status.TheVariants.{Successful, ObjectWasDeleted};
 ghost use Rattle.rk_model.specs.Lists.{has};
-ghost use Rattle.rk_queue.specs.Queues.{clusters, waits_in, IsQueue};
-ghost use Rattle.rk_signal.specs.Barriers.{Stored, no_stored, barrier, without_waiter, emptied, ended, is_filled, successful, waited, woken_by_wait, reply_to_wait};
+ghost use Rattle.rk_model.specs.Queues.{clusters, waits_in, ended, IsQueue};
+ghost use Rattle.rk_signal.specs.Barriers.{Stored, no_stored, barrier, without_waiter, emptied, is_filled, successful, waited, woken_by_wait, reply_to_wait};
 
-use rk_model::{Caller, NoMemory, Order, Reply, Status, ThreadIx, Wake, Wakes, position_of};
-use rk_queue::{ThreadQueue, Waiter};
+use rk_model::{Caller, NoMemory, Order, Reply, Status, ThreadIx, Waiter, Wakes};
+use rk_queue::ThreadQueue;
 use std::alloc::Global;
 use std::marker::Model;
 
@@ -170,22 +170,7 @@ impl Slot {
         ensures barrier { self.new ≡ emptied self.old }
         ensures woken { wakes.new ≡ ended status self.old.queue.arrivals }
     {
-        wake_all(&self.queue, status, wakes);
+        self.queue.wake_all(status, wakes);
         self.queue.reset(Order::Fifo);
-    }
-}
-
-/// Adds a wake with a status for each thread that waits in a queue, in order of arrival.
-fn wake_all(queue: &ThreadQueue, status: Status, wakes: &mut Wakes)
-    requires { wakes.old ≡ [] }
-    ensures { wakes.new ≡ ended status queue.now.arrivals }
-{
-    let _count = queue.len();
-    for waiter in queue.waiters() {
-        wakes.push(Wake {
-            thread: waiter.thread,
-            status,
-            out: 0,
-        });
     }
 }

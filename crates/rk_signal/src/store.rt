@@ -2,9 +2,9 @@ ghost use Rattle.std.specs.Prelude.{◌≡◌, ◌≢◌, ◌<◌, [], true, fal
 ghost use Rattle.std.specs.Borrow.{Lends, sem};
 ghost use Rattle.rk_model.specs.declared.status.Status.TheVariants.{Successful, ObjectWasDeleted};
 ghost use Rattle.rk_model.specs.Lists.{has};
-ghost use Rattle.rk_queue.specs.Queues.{clusters, waits_in, IsQueue};
+ghost use Rattle.rk_model.specs.Queues.{clusters, waits_in, ended, IsQueue};
 ghost use Rattle.rk_places.specs.Stores.{none_live, IsOfGroup, IsStoreOf, stored_at, put_at};
-ghost use Rattle.rk_signal.specs.Barriers.{no_stored, barrier, without_waiter, emptied, ended, is_filled, successful, waited, woken_by_wait, reply_to_wait};
+ghost use Rattle.rk_signal.specs.Barriers.{no_stored, barrier, without_waiter, emptied, is_filled, successful, waited, woken_by_wait, reply_to_wait};
 
 use crate::slot::Slot;
 use rk_model::{Caller, NoMemory, Reply, ThreadIx, Wakes};

@@ -1,5 +1,5 @@
 use Rattle.std.proofs.Common.{◌≡◌, drop}
-use Rattle.rk_queue.specs.Queues.{of_cluster, of_prio, earliest}
+use Rattle.rk_model.specs.Queues.{of_cluster, of_prio, earliest}
 use Rattle.rk_queue.proofs.queue.earliest_of.Given as goal
 
 abbrev pub invariant-loop-waiter : goal.invariant-loop-waiter

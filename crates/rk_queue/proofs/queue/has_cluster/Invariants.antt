@@ -1,6 +1,6 @@
 use Rattle.std.proofs.Common.{◌≡◌, drop}
 use Rattle.rk_model.specs.Lists.{has}
-use Rattle.rk_queue.specs.Queues.{clusters}
+use Rattle.rk_model.specs.Queues.{clusters}
 use Rattle.rk_queue.proofs.queue.has_cluster.Given as goal
 
 abbrev pub invariant-loop-waiter : goal.invariant-loop-waiter

@@ -1,5 +1,5 @@
 use Rattle.std.proofs.Common.{◌≡◌, drop}
-use Rattle.rk_queue.specs.Queues.{of_cluster, least_prio}
+use Rattle.rk_model.specs.Queues.{of_cluster, least_prio}
 use Rattle.rk_queue.proofs.ServiceLemmas.{least_of}
 use Rattle.rk_queue.proofs.queue.least_prio.Given as goal
 

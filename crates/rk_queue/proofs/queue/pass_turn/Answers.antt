@@ -1,5 +1,5 @@
 use Rattle.std.proofs.Common.{◌<◌, length, arith}
-use Rattle.rk_queue.specs.Queues.{without_turn}
+use Rattle.rk_model.specs.Queues.{without_turn}
 use Rattle.rk_queue.proofs.QueueLemmas.{turn_less}
 use Rattle.rk_queue.proofs.queue.pass_turn.Goals as goal
 

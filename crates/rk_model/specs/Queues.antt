@@ -1,10 +1,13 @@
 -- The queues in which threads wait, and the order in which they serve them.
 use Rattle.std.specs.Prelude.{ℕ, ◌≡◌, ◌≤◌, Bool, true, List, [], ◌∷◌, ◌++◌, ◌==◌, not, min, map, filter, Option, Some, None, if◌then◌else◌}
 use Rattle.rk_model.specs.declared.limits.TheConstants.{MOST_OBJECTS}
+use Rattle.rk_model.specs.declared.status.Status.{Status}
+use Rattle.rk_model.specs.declared.waiting.Caller.{Caller}
 use Rattle.rk_model.specs.declared.waiting.Order.{Order}
 use Rattle.rk_model.specs.declared.waiting.Order.TheVariants.{Fifo, Priority}
+use Rattle.rk_model.specs.declared.waiting.Waiter.{Waiter}
+use Rattle.rk_model.specs.declared.waiting.Wake.{Wake}
 use Rattle.rk_model.specs.Lists.{has, times}
-use Rattle.rk_queue.specs.declared.queue.Waiter.{Waiter}
 
 -- A queue: its waiters in order of arrival, the order in which it serves them, and the clusters of the waiters by their turns.
 pub record Queue : Type 0 where
@@ -60,6 +63,10 @@ turns_kept cluster waiters turns = if has (clusters waiters) cluster then turns 
 -- the turns after a waiter of a cluster was served and left these waiters: the cluster goes last where it has one of them, and has no turn otherwise
 abbrev pub turns_taken : ℕ → List Waiter → List ℕ → List ℕ
 turns_taken cluster waiters turns = if has (clusters waiters) cluster then without_turn cluster turns ++ cluster ∷ [] else without_turn cluster turns
+
+-- the waiter as which a task waits
+abbrev pub waiter_of : Caller → Waiter
+waiter_of by = record { thread = by.thread; cluster = by.home; prio = by.prio }
 
 -- the queue into which a waiter came as the latest
 abbrev pub entered : Waiter → Queue → Queue
@@ -139,6 +146,10 @@ served_if (Some thread) queue = served_by thread queue
 -- the queue that has served the thread that it serves next
 abbrev pub served : Queue → Queue
 served queue = served_if (first_of queue) queue
+
+-- the waits of these waiters ended with a status and without an out number, in order of arrival
+abbrev pub ended : Status → List Waiter → List Wake
+ended status waiters = map (λ (waiter : Waiter). record { thread = waiter.thread; status = status; out = 0 }) waiters
 
 -- In a queue each thread waits once and is one of 1 to 64, and each cluster has one turn exactly where a waiter is of it.
 pub record IsQueue (arrivals : List Waiter) (turns : List ℕ) : Type 0 where

@@ -1,0 +1,41 @@
+-- Chains of waits: a thread, the one on which it waits, and so on, by any function that gives each thread the next, or none.
+use Rattle.std.specs.Prelude.{ℕ, zero, suc, ◌≡◌, List, [], ◌∷◌, Bool, true, false, Option, Some, None}
+use Rattle.rk_model.specs.Lists.{has}
+
+-- what follows a thread in its chain: the rest from the thread to which it steps, or nothing
+abbrev pub chain_on : (ℕ → List ℕ) → Option ℕ → List ℕ
+chain_on rest None = []
+chain_on rest (Some next) = rest next
+
+-- the chain of a thread: the thread, the one to which it steps, and so on, up to n threads
+abbrev pub chain : (ℕ → Option ℕ) → ℕ → ℕ → List ℕ
+chain step zero thread = []
+chain step (suc n) thread = thread ∷ chain_on (chain step n) (step thread)
+
+-- whether the chain of a thread that steps like this ends: it steps to none, or to a thread whose chain ends
+abbrev pub ends_on : (ℕ → Bool) → Option ℕ → Bool
+ends_on rest None = true
+ends_on rest (Some next) = rest next
+
+-- whether the chain of a thread ends within n threads
+abbrev pub ends_by : (ℕ → Option ℕ) → ℕ → ℕ → Bool
+ends_by step zero thread = false
+ends_by step (suc n) thread = ends_on (ends_by step n) (step thread)
+
+-- the end of the chain of a thread that steps like this: the thread itself, or the end from the thread to which it steps
+abbrev pub end_on : ℕ → (ℕ → ℕ) → Option ℕ → ℕ
+end_on thread rest None = thread
+end_on thread rest (Some next) = rest next
+
+-- the end of the chain of a thread: the thread that it reaches in n steps, or earlier the one that steps to none
+abbrev pub end_of : (ℕ → Option ℕ) → ℕ → ℕ → ℕ
+end_of step zero thread = thread
+end_of step (suc n) thread = end_on thread (end_of step n) (step thread)
+
+-- whether the chain of a thread, up to n threads, reaches a thread
+abbrev pub reaches : (ℕ → Option ℕ) → ℕ → ℕ → ℕ → Bool
+reaches step n thread other = has (chain step n thread) other
+
+-- The chain of a thread ends: it does within some number of threads.
+abbrev pub Ends : (ℕ → Option ℕ) → ℕ → Type 0
+Ends step thread = (n : ℕ) × (ends_by step n thread ≡ true)

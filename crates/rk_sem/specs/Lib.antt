@@ -1,0 +1,2 @@
+pub mod SemaphoreCalls
+pub mod SemaphoreSlots

@@ -1,0 +1,405 @@
+ghost use Rattle.std.specs.Prelude.{◌≡◌, ◌≢◌, ◌<◌, [], ◌∷◌, true, false, is_some, IfOk, IfSome};
+ghost use Rattle.rk_model.specs.declared.limits.TheConstants.{MOST_NESTING};
+ghost use Rattle.rk_model.specs.declared.status.Status.TheVariants.{Successful};
+ghost use Rattle.rk_model.specs.Lists.{has};
+ghost use Rattle.rk_model.specs.Queues.{clusters, waits_in, first_of, ended, IsQueue};
+ghost use Rattle.rk_model.specs.State.{no_semaphore};
+ghost use Rattle.rk_model.specs.Directives.Semaphores.{is_binary, is_free, is_full, owns, nested, taken, with_waiter, unnested, given_to, handed, freed, flushed, new_semaphore, after_deleting, without_waiter, with_prio_of};
+ghost use Rattle.rk_model.specs.Directives.Waits.{bare};
+ghost use Rattle.rk_sem.specs.SemaphoreCalls.{obtained, reply_to_obtain, released, reply_to_release, woken_by_release, woken_by_flush, reply_to_remove, woken_by_remove};
+
+use crate::judge::{is_binary, is_counting};
+use rk_model::limits::{MOST_COUNT, MOST_NESTING};
+use rk_model::{
+    Caller, NoMemory, Order, Prio, Protocol, Reply, SemKind, SemSpec, Status, ThreadIx, Waiter,
+    Wake, Wakes, Wish,
+};
+use rk_queue::ThreadQueue;
+use std::alloc::Global;
+use std::marker::Model;
+
+/// A semaphore that lives.
+#[derive(Clone, Copy, Debug, PartialEq, Eq)]
+pub(crate) struct Semaphore {
+    /// Its kind.
+    pub(crate) kind: SemKind,
+    /// Its protocol.
+    pub(crate) protocol: Protocol,
+    /// Its count; 0 where it is a binary one.
+    pub(crate) count: u32,
+    /// The thread that owns it, if one does.
+    pub(crate) owner: Option<ThreadIx>,
+    /// How many times its owner has obtained it and not released it; 0 where none owns it.
+    pub(crate) nesting: u64,
+}
+
+/// A place for a semaphore, with room for the threads that wait for it.
+#[derive(Debug, Drop)]
+pub(crate) struct Slot {
+    semaphore: Option<Semaphore>,
+    queue: ThreadQueue,
+}
+
+impl Model for Slot {
+    ghost use Rattle.rk_model.specs.State.{SemaphoreState};
+    ghost use Rattle.rk_sem.specs.SemaphoreSlots.{IsStored, stored_by};
+
+    ghost Value = { SemaphoreState };
+
+    ghost view = { λ s. stored_by s.semaphore s.queue };
+
+    ghost invariant = { λ s. IsStored (stored_by s.semaphore s.queue) };
+}
+
+impl Slot {
+    /// A place in which no semaphore lives.
+    ///
+    /// # Errors
+    ///
+    /// `NoMemory` where there is no memory for 64 waiters.
+    pub(crate) fn new(alloc: Global) -> Result<Slot, NoMemory>
+        ensures { IfOk result (λ s. s ≡ no_semaphore) }
+    {
+        let queue = ThreadQueue::new(alloc, Order::Fifo)?;
+        Ok(Slot {
+            semaphore: None,
+            queue,
+        })
+    }
+
+    /// Whether a semaphore lives there. None waits where none lives.
+    pub(crate) fn is_live(&self) -> bool
+        ensures value { result ≡ self.now.live }
+        ensures vacant { result ≡ false → self.now ≡ no_semaphore }
+    {
+        self.semaphore.is_some()
+    }
+
+    /// The thread that owns it, if one does.
+    pub(crate) fn owner(&self) -> Option<ThreadIx>
+        ensures value { result ≡ self.now.owner }
+        ensures binary { is_some result ≡ true → is_binary self.now.kind ≡ true }
+        ensures nests { is_some result ≡ true → 0 < self.now.nesting }
+        ensures apart { IfSome result (λ t. waits_in self.now.queue t ≡ false) }
+    {
+        match self.semaphore {
+            None => None,
+            Some(semaphore) => semaphore.owner,
+        }
+    }
+
+    /// Whether a waiter of a cluster is there.
+    pub(crate) fn waits_from(&self, cluster: u8) -> bool
+        ensures { result ≡ has (clusters self.now.queue.arrivals) cluster }
+    {
+        self.queue.waits_from(cluster)
+    }
+
+    /// Whether a thread waits there.
+    pub(crate) fn waits_at(&self, thread: ThreadIx) -> bool
+        ensures value { result ≡ waits_in self.now.queue thread }
+        ensures queue { IsQueue self.now.queue.arrivals self.now.queue.turns }
+    {
+        let _waiters = self.queue.waiters();
+        self.queue.contains(thread)
+    }
+
+    /// Makes a semaphore there.
+    pub(crate) fn create(&mut self, spec: SemSpec, by: ThreadIx)
+        requires { self.old.live ≡ false }
+        ensures { self.new ≡ new_semaphore spec by }
+    {
+        let is_owned = is_binary(spec.kind) && spec.count == 0;
+        self.semaphore = Some(Semaphore {
+            kind: spec.kind,
+            protocol: spec.protocol,
+            count: if is_binary(spec.kind) { 0 } else { spec.count },
+            owner: if is_owned { Some(by) } else { None },
+            nesting: if is_owned { 1 } else { 0 },
+        });
+        self.queue.reset(spec.order);
+    }
+
+    /// Whether a thread owns it.
+    fn is_owned_by(&self, thread: ThreadIx) -> bool
+        ensures { result ≡ owns thread self.now }
+    {
+        match self.owner() {
+            None => false,
+            Some(owner) => owner == thread,
+        }
+    }
+
+    /// Whether it can be taken.
+    fn is_free(&self) -> bool
+        ensures { result ≡ is_free self.now }
+    {
+        match self.semaphore {
+            None => false,
+            Some(semaphore) => {
+                if is_binary(semaphore.kind) {
+                    semaphore.owner.is_none()
+                } else {
+                    semaphore.count > 0
+                }
+            }
+        }
+    }
+
+    /// The nesting.
+    fn nesting(&self) -> u64
+        ensures { result ≡ self.now.nesting }
+    {
+        match self.semaphore {
+            None => 0,
+            Some(semaphore) => semaphore.nesting,
+        }
+    }
+
+    /// Obtains it for a task, or lets it wait, unless it doesn't wish to, or `closes` holds, which
+    /// says whether the chain of the owner reaches the task.
+    pub(crate) fn obtain(&mut self, by: Caller, wish: Wish, closes: bool) -> Reply
+        requires live { self.old.live ≡ true }
+        requires absent { waits_in self.old.queue by.thread ≡ false }
+        ensures semaphore { self.new ≡ obtained by wish closes self.old }
+        ensures reply { result ≡ reply_to_obtain by wish closes self.old }
+    {
+        if self.is_owned_by(by.thread) {
+            if self.nesting() == MOST_NESTING {
+                return reply(Status::Unsatisfied);
+            }
+            self.nest();
+            return reply(Status::Successful);
+        }
+        if self.is_free() {
+            self.take(by.thread);
+            return reply(Status::Successful);
+        }
+        match wish {
+            Wish::NoWait => reply(Status::Unsatisfied),
+            Wish::Limit(_) => {
+                if self.owner().is_some() && closes {
+                    return reply(Status::IncorrectState);
+                }
+                self.enter(by);
+                reply(Status::Waits)
+            }
+        }
+    }
+
+    /// Obtains it once more for its owner.
+    fn nest(&mut self)
+        requires live { self.old.live ≡ true }
+        requires room { self.old.nesting ≢ MOST_NESTING }
+        ensures { self.new ≡ nested self.old }
+    {
+        let semaphore = self.semaphore.as_mut().unwrap();
+        semaphore.nesting += 1;
+    }
+
+    /// Takes it for a thread.
+    fn take(&mut self, thread: ThreadIx)
+        requires live { self.old.live ≡ true }
+        requires free { is_free self.old ≡ true }
+        requires absent { waits_in self.old.queue thread ≡ false }
+        ensures { self.new ≡ taken thread self.old }
+    {
+        let semaphore = self.semaphore.as_mut().unwrap();
+        if is_binary(semaphore.kind) {
+            semaphore.owner = Some(thread);
+            semaphore.nesting = 1;
+        } else {
+            semaphore.count -= 1;
+        }
+    }
+
+    /// Lets a task wait.
+    fn enter(&mut self, by: Caller)
+        requires live { self.old.live ≡ true }
+        requires absent { waits_in self.old.queue by.thread ≡ false }
+        requires other { owns by.thread self.old ≡ false }
+        ensures { self.new ≡ with_waiter by self.old }
+    {
+        self.queue.enqueue(Waiter {
+            thread: by.thread,
+            cluster: by.home,
+            prio: by.prio,
+        });
+    }
+
+    /// Releases it once, and hands it to the waiter to be served, if there is one.
+    pub(crate) fn release(&mut self, by: ThreadIx, wakes: &mut Wakes) -> Reply
+        requires live { self.old.live ≡ true }
+        requires none { wakes.old ≡ [] }
+        ensures semaphore { self.new ≡ released by self.old }
+        ensures woken { wakes.new ≡ woken_by_release by self.old }
+        ensures reply { result ≡ reply_to_release by self.old }
+    {
+        if self.is_binary() {
+            if !self.is_owned_by(by) {
+                return reply(Status::NotOwnerOfResource);
+            }
+            if self.nesting() > 1 {
+                self.unnest();
+                return reply(Status::Successful);
+            }
+        }
+        match self.serve() {
+            Some(thread) => {
+                wakes.push(Wake {
+                    thread,
+                    status: Status::Successful,
+                    out: 0,
+                });
+                reply(Status::Successful)
+            }
+            None => {
+                if self.is_full() {
+                    return reply(Status::Unsatisfied);
+                }
+                self.free();
+                reply(Status::Successful)
+            }
+        }
+    }
+
+    /// Whether it is a binary one.
+    fn is_binary(&self) -> bool
+        requires { self.now.live ≡ true }
+        ensures { result ≡ is_binary self.now.kind }
+    {
+        is_binary(self.semaphore.as_ref().unwrap().kind)
+    }
+
+    /// Whether it counts, and its count is as great as it can be.
+    fn is_full(&self) -> bool
+        requires { self.now.live ≡ true }
+        ensures { result ≡ is_full self.now }
+    {
+        let semaphore = self.semaphore.as_ref().unwrap();
+        is_counting(semaphore.kind) && semaphore.count == MOST_COUNT
+    }
+
+    /// Releases it once for its owner, who has obtained it several times.
+    fn unnest(&mut self)
+        requires live { self.old.live ≡ true }
+        requires nested { 1 < self.old.nesting }
+        ensures { self.new ≡ unnested self.old }
+    {
+        let semaphore = self.semaphore.as_mut().unwrap();
+        semaphore.nesting -= 1;
+    }
+
+    /// Hands it to the waiter to be served, if there is one, and gives its thread.
+    fn serve(&mut self) -> Option<ThreadIx>
+        requires { self.old.live ≡ true }
+        ensures value { result ≡ first_of self.old.queue }
+        ensures semaphore { self.new ≡ handed (first_of self.old.queue) self.old }
+    {
+        let thread = self.queue.take_first()?;
+        self.give_to(thread);
+        Some(thread)
+    }
+
+    /// Makes a thread that doesn't wait the owner of a binary one.
+    fn give_to(&mut self, thread: ThreadIx)
+        requires live { self.old.live ≡ true }
+        requires absent { waits_in self.old.queue thread ≡ false }
+        ensures { self.new ≡ given_to thread self.old }
+    {
+        let semaphore = self.semaphore.as_mut().unwrap();
+        if is_binary(semaphore.kind) {
+            semaphore.owner = Some(thread);
+            semaphore.nesting = 1;
+        }
+    }
+
+    /// Frees it, or raises its count, where none waits.
+    fn free(&mut self)
+        requires live { self.old.live ≡ true }
+        requires room { is_full self.old ≡ false }
+        ensures { self.new ≡ freed self.old }
+    {
+        let semaphore = self.semaphore.as_mut().unwrap();
+        match semaphore.kind {
+            SemKind::Counting => semaphore.count += 1,
+            SemKind::Simple => semaphore.count = 1,
+            SemKind::Binary => {
+                semaphore.owner = None;
+                semaphore.nesting = 0;
+            }
+        }
+    }
+
+    /// Ends all waits.
+    pub(crate) fn flush(&mut self, wakes: &mut Wakes) -> Reply
+        requires live { self.old.live ≡ true }
+        requires none { wakes.old ≡ [] }
+        ensures semaphore { self.new ≡ flushed self.old }
+        ensures woken { wakes.new ≡ woken_by_flush self.old }
+        ensures reply { result ≡ bare Successful }
+    {
+        self.end_waits(Status::Unsatisfied, wakes);
+        reply(Status::Successful)
+    }
+
+    /// Ends the life of the semaphore, unless it has an owner.
+    pub(crate) fn remove(&mut self, wakes: &mut Wakes) -> Reply
+        requires live { self.old.live ≡ true }
+        requires none { wakes.old ≡ [] }
+        ensures semaphore { self.new ≡ after_deleting self.old }
+        ensures woken { wakes.new ≡ woken_by_remove self.old }
+        ensures reply { result ≡ reply_to_remove self.old }
+    {
+        if self.owner().is_some() {
+            return reply(Status::ResourceInUse);
+        }
+        self.end_waits(Status::ObjectWasDeleted, wakes);
+        self.vacate();
+        reply(Status::Successful)
+    }
+
+    /// Ends all waits with a status.
+    fn end_waits(&mut self, status: Status, wakes: &mut Wakes)
+        requires live { self.old.live ≡ true }
+        requires none { wakes.old ≡ [] }
+        ensures semaphore { self.new ≡ flushed self.old }
+        ensures woken { wakes.new ≡ ended status self.old.queue.arrivals }
+    {
+        self.queue.wake_all(status, wakes);
+        self.queue.clear();
+    }
+
+    /// Makes the place vacant.
+    fn vacate(&mut self)
+        ensures { self.new ≡ no_semaphore }
+    {
+        self.semaphore = None;
+        self.queue.reset(Order::Fifo);
+    }
+
+    /// Takes a thread out that waits there.
+    pub(crate) fn extract(&mut self, thread: ThreadIx)
+        requires live { self.old.live ≡ true }
+        requires waits { waits_in self.old.queue thread ≡ true }
+        ensures { self.new ≡ without_waiter thread self.old }
+    {
+        self.queue.extract(thread);
+    }
+
+    /// Gives a thread that waits there another priority.
+    pub(crate) fn reorder(&mut self, thread: ThreadIx, prio: Prio)
+        requires live { self.old.live ≡ true }
+        requires waits { waits_in self.old.queue thread ≡ true }
+        ensures { self.new ≡ with_prio_of thread prio self.old }
+    {
+        self.queue.reorder(thread, prio);
+    }
+}
+
+/// The answer with a status and without an out number.
+fn reply(status: Status) -> Reply
+    ensures { result ≡ bare status }
+{
+    Reply { status, out: 0 }
+}
