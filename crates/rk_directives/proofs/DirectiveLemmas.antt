@@ -4,8 +4,10 @@ pub mod EventsLemmas
 pub mod ObjectsLemmas
 pub mod BarriersLemmas
 pub mod LentBarriersLemmas
+pub mod SemaphoresLemmas
 pub mod PartitionsLemmas
 pub mod PeriodsLemmas
+pub mod LentSemaphoresLemmas
 pub mod LentPeriodsLemmas
 pub mod KeptPeriodsLemmas
 pub mod ActionLemmas

@@ -4,6 +4,7 @@ pub mod PeriodsKeptLemmas
 pub mod ThreadBoundsLemmas
 pub mod TimerLemmas
 pub mod TieLemmas
+pub mod WaitChainLemmas
 pub mod GentleChangeLemmas
 pub mod OutcomeLemmas
 pub mod DirectiveLemmas

@@ -10,7 +10,7 @@ use Rattle.rk_model.specs.declared.ids.Named.{Named}
 use Rattle.rk_model.specs.declared.state.Thread.{Thread}
 use Rattle.rk_model.specs.Lists.{nth, with_nth, times}
 use Rattle.rk_model.specs.Names.{Names, Table, names_of, with_names, indices, lives, taken, given_back}
-use Rattle.rk_model.specs.State.{BarrierState, PartitionState, PeriodState, Objects, no_thread, no_barrier, no_partition, no_period}
+use Rattle.rk_model.specs.State.{SemaphoreState, BarrierState, PartitionState, PeriodState, Objects, no_thread, no_semaphore, no_barrier, no_partition, no_period}
 use Rattle.rk_model.specs.Directives.Objects.{has_begun, begun_in}
 use Rattle.rk_model.proofs.BooleanLemmas.{same_number}
 use Rattle.rk_model.proofs.CountLemmas.{same_either_way, times-append, has_times, has_none}
@@ -197,7 +197,7 @@ tasks_of : (table : Table) (objects : Objects) → AreNamed table objects → Ar
 tasks_of table objects named = record { class = named.class Task; bare = named.blank }
 
 with_tasks : (table : Table) (objects : Objects) (names : Names) (threads : List Thread) → AreNamed table objects → AreSlots no_thread has_life names threads → AreNamed (with_names Task names table) (record objects { threads = threads })
-with_tasks table objects names threads named slots = record { class = class; blank = slots.bare; bare = named.bare; unused = named.unused; idle = named.idle } where
+with_tasks table objects names threads named slots = record { class = class; blank = slots.bare; free = named.free; bare = named.bare; unused = named.unused; idle = named.idle } where
   class : (c : Class) → IsNamed (names_of c (with_names Task names table)) (begun_in (record objects { threads = threads }) c)
   class Task = slots.class
   class Semaphore = named.class Semaphore
@@ -232,7 +232,7 @@ barriers_named : (table : Table) (objects : Objects) → AreNamed table objects 
 barriers_named table objects named = record { class = named.class Barrier; bare = named.bare }
 
 with_barriers : (table : Table) (objects : Objects) (names : Names) (barriers : List BarrierState) → AreNamed table objects → AreSlots no_barrier is_barrier names barriers → AreNamed (with_names Barrier names table) (record objects { barriers = barriers })
-with_barriers table objects names barriers named slots = record { class = class; blank = named.blank; bare = slots.bare; unused = named.unused; idle = named.idle } where
+with_barriers table objects names barriers named slots = record { class = class; blank = named.blank; free = named.free; bare = slots.bare; unused = named.unused; idle = named.idle } where
   class : (c : Class) → IsNamed (names_of c (with_names Barrier names table)) (begun_in (record objects { barriers = barriers }) c)
   class Task = named.class Task
   class Semaphore = named.class Semaphore
@@ -255,6 +255,38 @@ pub named_vacated : (table : Table) (objects : Objects) (i : ℕ) → AreNamed t
 named_vacated table objects i named size life =
     with_barriers table objects (given_back table.barriers i) (with_nth objects.barriers i no_barrier) named (slots_ended no_barrier is_barrier table.barriers objects.barriers i size refl life (barriers_named table objects named))
 
+-- ---- semaphores
+
+abbrev is_semaphore : SemaphoreState → Bool
+is_semaphore sem = sem.live
+
+semaphores_named : (table : Table) (objects : Objects) → AreNamed table objects → AreSlots no_semaphore is_semaphore table.semaphores objects.semaphores
+semaphores_named table objects named = record { class = named.class Semaphore; bare = named.free }
+
+with_semaphores : (table : Table) (objects : Objects) (names : Names) (semaphores : List SemaphoreState) → AreNamed table objects → AreSlots no_semaphore is_semaphore names semaphores → AreNamed (with_names Semaphore names table) (record objects { semaphores = semaphores })
+with_semaphores table objects names semaphores named slots = record { class = class; blank = named.blank; free = slots.bare; bare = named.bare; unused = named.unused; idle = named.idle } where
+  class : (c : Class) → IsNamed (names_of c (with_names Semaphore names table)) (begun_in (record objects { semaphores = semaphores }) c)
+  class Task = named.class Task
+  class Semaphore = slots.class
+  class Partition = named.class Partition
+  class Period = named.class Period
+  class Barrier = named.class Barrier
+
+-- a semaphore that lives is put back where one lives
+pub named_obtained : (table : Table) (objects : Objects) (i : ℕ) (sem : SemaphoreState) → (nth no_semaphore objects.semaphores i).live ≡ true → sem.live ≡ true → AreNamed table objects → AreNamed table (record objects { semaphores = with_nth objects.semaphores i sem })
+named_obtained table objects i sem was life named =
+    with_semaphores table objects table.semaphores (with_nth objects.semaphores i sem) named (slots_put no_semaphore is_semaphore table.semaphores objects.semaphores i sem was life (semaphores_named table objects named))
+
+-- a semaphore of the first free index lives then
+pub named_founded : (table : Table) (objects : Objects) (index : ℕ) (free : List ℕ) (name : ℕ) (sem : SemaphoreState) → AreNamed table objects → length objects.semaphores ≡ 64 → table.semaphores.free ≡ index ∷ free → sem.live ≡ true → AreNamed (with_names Semaphore (taken table.semaphores index free name) table) (record objects { semaphores = with_nth objects.semaphores index sem })
+named_founded table objects index free name sem named size is life =
+    with_semaphores table objects (taken table.semaphores index free name) (with_nth objects.semaphores index sem) named (slots_made no_semaphore is_semaphore table.semaphores objects.semaphores index free name sem size is life (semaphores_named table objects named))
+
+-- a semaphore that lived doesn't any more, its index is free, and nothing is left of it
+pub named_abandoned : (table : Table) (objects : Objects) (i : ℕ) → AreNamed table objects → length objects.semaphores ≡ 64 → (nth no_semaphore objects.semaphores i).live ≡ true → AreNamed (with_names Semaphore (given_back table.semaphores i) table) (record objects { semaphores = with_nth objects.semaphores i no_semaphore })
+named_abandoned table objects i named size life =
+    with_semaphores table objects (given_back table.semaphores i) (with_nth objects.semaphores i no_semaphore) named (slots_ended no_semaphore is_semaphore table.semaphores objects.semaphores i size refl life (semaphores_named table objects named))
+
 -- ---- partitions
 
 abbrev is_partition : PartitionState → Bool
@@ -264,7 +296,7 @@ partitions_named : (table : Table) (objects : Objects) → AreNamed table object
 partitions_named table objects named = record { class = named.class Partition; bare = named.unused }
 
 with_partitions : (table : Table) (objects : Objects) (names : Names) (partitions : List PartitionState) → AreNamed table objects → AreSlots no_partition is_partition names partitions → AreNamed (with_names Partition names table) (record objects { partitions = partitions })
-with_partitions table objects names partitions named slots = record { class = class; blank = named.blank; bare = named.bare; unused = slots.bare; idle = named.idle } where
+with_partitions table objects names partitions named slots = record { class = class; blank = named.blank; free = named.free; bare = named.bare; unused = slots.bare; idle = named.idle } where
   class : (c : Class) → IsNamed (names_of c (with_names Partition names table)) (begun_in (record objects { partitions = partitions }) c)
   class Task = named.class Task
   class Semaphore = named.class Semaphore
@@ -296,7 +328,7 @@ periods_named : (table : Table) (objects : Objects) → AreNamed table objects �
 periods_named table objects named = record { class = named.class Period; bare = named.idle }
 
 with_periods : (table : Table) (objects : Objects) (names : Names) (periods : List PeriodState) → AreNamed table objects → AreSlots no_period is_period names periods → AreNamed (with_names Period names table) (record objects { periods = periods })
-with_periods table objects names periods named slots = record { class = class; blank = named.blank; bare = named.bare; unused = named.unused; idle = slots.bare } where
+with_periods table objects names periods named slots = record { class = class; blank = named.blank; free = named.free; bare = named.bare; unused = named.unused; idle = slots.bare } where
   class : (c : Class) → IsNamed (names_of c (with_names Period names table)) (begun_in (record objects { periods = periods }) c)
   class Task = named.class Task
   class Semaphore = named.class Semaphore

@@ -18,7 +18,7 @@ use Rattle.rk_model.specs.State.{Plain, ClusterState, no_thread, no_cluster, thr
 use Rattle.rk_model.specs.Scheduling.Timers.{times_armed, with_timer, arm}
 use Rattle.rk_model.specs.Scheduling.Priorities.{is_started}
 use Rattle.rk_model.specs.Directives.Outcomes.{Outcome, Refused, Done, Waiting, Gone, on_found, changed, after_outcome}
-use Rattle.rk_model.specs.Directives.Waits.{Object, object_of_wait, is_for, arrivals_in, enter, start_wait, begin_limited}
+use Rattle.rk_model.specs.Directives.Waits.{Object, object_of_wait, is_for, arrivals_in, caller_at, enter, start_wait, begin_limited}
 use Rattle.rk_directives.specs.Calls.{IsActing, IsCaller}
 use Rattle.rk_directives.specs.Refusals.{is_refused}
 use Rattle.rk_directives.specs.Sound.{IsInBounds, IsGentle, waits_in, may_time_out, is_asleep, is_in_call}
@@ -26,6 +26,7 @@ use Rattle.rk_directives.proofs.ThreadBoundsLemmas.{bounds_at}
 use Rattle.rk_model.proofs.IndexLemmas.{nth-with_same}
 use Rattle.rk_directives.proofs.TimerLemmas.{timers_of, times-push}
 use Rattle.rk_directives.proofs.TieLemmas.{IsThere}
+use Rattle.rk_directives.proofs.WaitChainLemmas.{MayJoin, joins_put}
 use Rattle.rk_directives.proofs.GentleChangeLemmas.{gentle_same, gentle_start, gentle_arm, gentle_enter, Stays, gentle_go_on}
 use Rattle.rk_model.proofs.BooleanLemmas.{equal_test}
 use Rattle.std.proofs.lemmas.List.{get_or-set_same}
@@ -118,12 +119,12 @@ none_armed k t acts =
       by false e few = omega (arith, few)
 
 -- a thread that acts stands in no queue
-pub none_awaits : (k : Plain) (t : ℕ) → IsActing k t → (object : Object) → times t (arrivals_in k.barriers object) ≡ 0
+pub none_awaits : (k : Plain) (t : ℕ) → IsActing k t → (object : Object) → times t (arrivals_in k.barriers k.semaphores object) ≡ 0
 none_awaits k t acts object = acts.sound.tied.queued t refl object ∙ ap (λ w. cond (is_for (object_of_wait w) object) 1 0) acts.waits_not
 
--- a caller begins to wait, with a limit or without one, which a sleep has; for an object that there is
-pub gentle_limited : (k : Plain) (t : ℕ) (wait : Wait) (ticks : ℕ) → IsCaller k t → IsThere k.barriers (object_of_wait (Some wait)) → may_time_out (Some wait) ≡ true → (eqb ticks 0 ≡ true → is_asleep (Some wait) ≡ false) → IsGentle k (begin_limited k t wait ticks)
-gentle_limited k t wait ticks caller there limited sleeps =
+-- a caller begins to wait, with a limit or without one, which a sleep has; for an object that there is, and whose owner's chain, if it has one, doesn't reach the caller
+pub gentle_limited : (k : Plain) (t : ℕ) (wait : Wait) (ticks : ℕ) → IsCaller k t → IsThere k.barriers k.semaphores (object_of_wait (Some wait)) → may_time_out (Some wait) ≡ true → (eqb ticks 0 ≡ true → is_asleep (Some wait) ≡ false) → MayJoin k.semaphores k.threads t (Some wait) → IsGentle k (begin_limited k t wait ticks)
+gentle_limited k t wait ticks caller there limited sleeps joins =
     let acts = caller.acts in
     let b = bounds_at k t acts.sound in
     let thread : Thread = record (thread_at k t) { wait = Some wait } in
@@ -134,9 +135,10 @@ gentle_limited k t wait ticks caller there limited sleeps =
     let armed = gentle_arm k (start_wait k t wait) (thread_at k t).home t (k.present + ticks) begun waits (none_armed k t acts) in
     let is : (thread_at (start_wait k t wait) t).wait ≡ Some wait = ap (λ (x : Thread). x.wait) here in
     let none = none_awaits k t acts in
+    let may = joins_put k.semaphores k.threads t thread (Some wait) joins in
     by (eqb ticks 0) refl
-    (λ zero. gentle_enter k (start_wait k t wait) t wait begun is there none (λ asleep. absurd (false≢true (sym (sleeps zero) ∙ ap is_asleep (sym is) ∙ asleep))))
-    (λ some. gentle_enter k (arm_at (start_wait k t wait)) t wait armed is there none (λ _. has_timer here))
+    (λ zero. gentle_enter k (start_wait k t wait) (caller_at k t) wait begun is there none (λ asleep. absurd (false≢true (sym (sleeps zero) ∙ ap is_asleep (sym is) ∙ asleep))) may)
+    (λ some. gentle_enter k (arm_at (start_wait k t wait)) (caller_at k t) wait armed is there none (λ _. has_timer here) may)
   where
     arm_at : Plain → Plain
     arm_at m = arm m (thread_at k t).home (record { who = OfThread t; due = k.present + ticks })
@@ -151,7 +153,7 @@ gentle_limited k t wait ticks caller there limited sleeps =
         let more : times_armed (OfThread t) (cluster_at (arm_at (start_wait k t wait)) h).timers ≡ times_armed (OfThread t) timers + 1 = ap (times_armed (OfThread t)) at ∙ times-push t t (k.present + ticks) timers ∙ (rw one refl) in
         subst (λ d. 1 ≤ times_armed (OfThread t) (cluster_at (arm_at (start_wait k t wait)) d).timers) (sym home) (omega (arith, more))
 
-    by : (b : Bool) → eqb ticks 0 ≡ b → (eqb ticks 0 ≡ true → IsGentle k (enter (start_wait k t wait) t (Some wait))) → (eqb ticks 0 ≡ false → IsGentle k (enter (arm_at (start_wait k t wait)) t (Some wait))) → IsGentle k (enter (cond b (start_wait k t wait) (arm_at (start_wait k t wait))) t (Some wait))
+    by : (b : Bool) → eqb ticks 0 ≡ b → (eqb ticks 0 ≡ true → IsGentle k (enter (start_wait k t wait) (caller_at k t) (Some wait))) → (eqb ticks 0 ≡ false → IsGentle k (enter (arm_at (start_wait k t wait)) (caller_at k t) (Some wait))) → IsGentle k (enter (cond b (start_wait k t wait) (arm_at (start_wait k t wait))) (caller_at k t) (Some wait))
     by true e begun armed = begun e
     by false e begun armed = armed e
 

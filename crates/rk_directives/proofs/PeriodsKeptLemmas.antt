@@ -11,6 +11,7 @@ use Rattle.rk_model.specs.declared.state.Armer.{Armer}
 use Rattle.rk_model.specs.declared.state.Armer.TheVariants.{Thread as OfThread, Period as OfPeriod}
 use Rattle.rk_model.specs.declared.state.Thread.{Thread}
 use Rattle.rk_model.specs.declared.state.Wait.{Wait}
+use Rattle.rk_model.specs.declared.waiting.Caller.{Caller}
 use Rattle.rk_model.specs.Lists.{nth, times}
 use Rattle.rk_model.specs.Names.{Table}
 use Rattle.rk_model.specs.State.{Plain, ClusterState, PeriodState, no_thread, no_period, no_cluster, thread_at, put_thread, period_at, cluster_at, put_cluster}
@@ -20,7 +21,7 @@ use Rattle.rk_model.specs.Scheduling.Timers.{is_same, without_timer, is_due, due
 use Rattle.rk_model.specs.Directives.Objects.{has_begun}
 use Rattle.rk_model.specs.Directives.Outcomes.{finished, go_on, concluded}
 use Rattle.rk_model.specs.Directives.Periods.{end_of}
-use Rattle.rk_model.specs.Directives.Waits.{enter, leave, start_wait, start_limited, begin_limited, end_wait, end_each}
+use Rattle.rk_model.specs.Directives.Waits.{caller_at, enter, leave, start_wait, start_limited, begin_limited, stop_wait, end_wait, end_each, stop_each}
 use Rattle.rk_model.proofs.BooleanLemmas.{equal_test}
 use Rattle.rk_model.proofs.IndexLemmas.{nth-with_other, nth-with_kept}
 use Rattle.rk_directives.proofs.PeriodSoundLemmas.{either, none_sound}
@@ -91,8 +92,8 @@ keeps_names k table = keeps_beside k (record k { table = table }) refl refl refl
 pub keeps_leave : (k : Plain) (t : ℕ) → KeepsPeriods k (leave k t)
 keeps_leave k t = keeps_beside k (leave k t) refl refl refl refl
 
-pub keeps_enter : (k : Plain) (t : ℕ) (wait : Option Wait) → KeepsPeriods k (enter k t wait)
-keeps_enter k t wait = keeps_beside k (enter k t wait) refl refl refl refl
+pub keeps_enter : (k : Plain) (by : Caller) (wait : Option Wait) → KeepsPeriods k (enter k by wait)
+keeps_enter k by wait = keeps_beside k (enter k by wait) refl refl refl refl
 
 -- ---- threads
 
@@ -182,34 +183,44 @@ keeps_taken k c t x xs is due = keeps_timers k c (without_due k.present (cluster
 
 -- ---- waits
 
--- to end a wait that isn't for a period
-pub keeps_end_wait : (k : Plain) (t : ℕ) (reply : Reply) → awaits (thread_at k t).wait ≡ None → KeepsPeriods k (end_wait k t reply)
-keeps_end_wait k t reply none =
+-- to end a wait that isn't for a period, of a thread that stands in no queue any more
+pub keeps_stop_wait : (k : Plain) (t : ℕ) (reply : Reply) → awaits (thread_at k t).wait ≡ None → KeepsPeriods k (stop_wait k t reply)
+keeps_stop_wait k t reply none =
     let h = (thread_at k t).home in
-    let left = leave k t in
     let thread : Thread = record (thread_at k t) { wait = None; finished = Some reply } in
-    keeps_then k (cancel left h (OfThread t)) (end_wait k t reply)
-    (keeps_then k left (cancel left h (OfThread t)) (keeps_leave k t) (keeps_cancel left h t))
-    (keeps_put (cancel left h (OfThread t)) t thread (same (thread_at k t) none))
+    keeps_then k (cancel k h (OfThread t)) (stop_wait k t reply) (keeps_cancel k h t) (keeps_put (cancel k h (OfThread t)) t thread (same (thread_at k t) none))
   where
     same : (x : Thread) → awaits x.wait ≡ None → (let y : Thread = record x { wait = None; finished = Some reply } in owner_of y) ≡ owner_of x
     same x none = ap (λ a. (let o : Owner = record { lives = has_begun x.life; home = x.home; awaits = a; computed = x.computed } in o)) (sym none)
+
+-- to end a wait that isn't for a period
+pub keeps_end_wait : (k : Plain) (t : ℕ) (reply : Reply) → awaits (thread_at k t).wait ≡ None → KeepsPeriods k (end_wait k t reply)
+keeps_end_wait k t reply none = keeps_then k (leave k t) (end_wait k t reply) (keeps_leave k t) (keeps_stop_wait (leave k t) t reply none)
+
+-- whether the first of these is this thread
+first_times : (t : ℕ) (ts : List ℕ) (b : Bool) → b ≡ true → 0 < cond b 1 0 + times t ts
+first_times t ts true e = omega arith
+first_times t ts false e = absurd (false≢true e)
+
+-- to end the waits of these threads, which stand in no queue any more, and of which none waits for a period
+pub keeps_stop_each : (k : Plain) (ts : List ℕ) (reply : Reply) → ((t : ℕ) → 0 < times t ts → awaits (thread_at k t).wait ≡ None) → KeepsPeriods k (stop_each k ts reply)
+keeps_stop_each k [] reply none = keeps_same k
+keeps_stop_each k (t ∷ ts) reply none =
+    let ends = keeps_stop_wait k t reply (none t (first_times t ts (t == t) (equal_test t t refl))) in
+    keeps_then k (stop_wait k t reply) (stop_each (stop_wait k t reply) ts reply) ends
+    (keeps_stop_each (stop_wait k t reply) ts reply (λ u some. ends.waits u ∙ none u (omega (arith, some))))
 
 -- to end the waits of these threads, of which none is for a period
 pub keeps_end_each : (k : Plain) (ts : List ℕ) (reply : Reply) → ((t : ℕ) → 0 < times t ts → awaits (thread_at k t).wait ≡ None) → KeepsPeriods k (end_each k ts reply)
 keeps_end_each k [] reply none = keeps_same k
 keeps_end_each k (t ∷ ts) reply none =
-    let ends = keeps_end_wait k t reply (none t (first (t == t) (equal_test t t refl))) in
+    let ends = keeps_end_wait k t reply (none t (first_times t ts (t == t) (equal_test t t refl))) in
     keeps_then k (end_wait k t reply) (end_each (end_wait k t reply) ts reply) ends
     (keeps_end_each (end_wait k t reply) ts reply (λ u some. ends.waits u ∙ none u (omega (arith, some))))
-  where
-    first : (b : Bool) → b ≡ true → 0 < cond b 1 0 + times t ts
-    first true e = omega arith
-    first false e = absurd (false≢true e)
 
 -- to begin to wait, not for a period, with a limit or without one
 pub keeps_limited : (k : Plain) (t : ℕ) (wait : Wait) (ticks : ℕ) → awaits (Some wait) ≡ None → (thread_at k t).wait ≡ None → KeepsPeriods k (begin_limited k t wait ticks)
-keeps_limited k t wait ticks other free = keeps_then k (start_limited k t wait ticks) (begin_limited k t wait ticks) (by (eqb ticks 0)) (keeps_enter (start_limited k t wait ticks) t (Some wait)) where
+keeps_limited k t wait ticks other free = keeps_then k (start_limited k t wait ticks) (begin_limited k t wait ticks) (by (eqb ticks 0)) (keeps_enter (start_limited k t wait ticks) (caller_at k t) (Some wait)) where
   armed : Plain
   armed = arm (start_wait k t wait) (thread_at k t).home (record { who = OfThread t; due = k.present + ticks })
 

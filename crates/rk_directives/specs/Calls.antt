@@ -1,12 +1,18 @@
 -- The threads that act.
-use Rattle.std.specs.Prelude.{ℕ, ◌≡◌, ◌<◌, ◌≤◌, Option, None}
-use Rattle.rk_model.specs.declared.ids.Class.TheVariants.{Barrier, Period}
+use Rattle.std.specs.Prelude.{ℕ, ◌≡◌, ◌<◌, ◌≤◌, Option, Some, None, if◌then◌else◌}
+use Rattle.rk_model.specs.declared.ids.Class.TheVariants.{Semaphore, Barrier, Period}
 use Rattle.rk_model.specs.declared.scenario.Op.{Op}
-use Rattle.rk_model.specs.declared.scenario.Op.TheVariants.{BarrierWait, BarrierRelease, BarrierDelete, PeriodPeriod, PeriodCancel}
+use Rattle.rk_model.specs.declared.scenario.Op.TheVariants.{SemObtain, SemRelease, SemFlush, SemDelete, BarrierWait, BarrierRelease, BarrierDelete, PeriodPeriod, PeriodCancel}
+use Rattle.rk_model.specs.declared.scenario.Wish.{Wish}
+use Rattle.rk_model.specs.declared.scenario.Wish.TheVariants.{NoWait, Limit}
 use Rattle.rk_model.specs.Directives.Objects.{object_named}
+use Rattle.rk_model.specs.Directives.Waits.{Object, OfBarrier, OfSemaphore}
 use Rattle.rk_model.specs.declared.limits.TheConstants.{MOST_OBJECTS, MOST_LINES}
 use Rattle.rk_model.specs.declared.state.Life.TheVariants.{Started}
-use Rattle.rk_model.specs.State.{Plain, thread_at}
+use Rattle.rk_model.specs.declared.status.Status.TheVariants.{ResourceInUse}
+use Rattle.rk_model.specs.State.{Plain, thread_at, semaphore_at}
+use Rattle.rk_model.specs.Directives.Outcomes.{Outcome, Refused, done}
+use Rattle.rk_model.specs.Directives.Semaphores.{is_owned, without_semaphore}
 use Rattle.rk_directives.specs.Sound.{IsSound}
 
 -- A thread of a sound state that acts: it is one of the 64, is started, and neither waits nor has work left.
@@ -24,11 +30,24 @@ pub record IsCaller (k : Plain) (t : ℕ) : Type 0 where
   pub line : (thread_at k t).line ≤ MOST_LINES
   pub returns_not : (thread_at k t).finished ≡ None
 
--- the barrier whose queue a line of a caller may change, if there is one
-abbrev pub queue_named : Plain → ℕ → Op → Option ℕ
-queue_named k t (BarrierWait id ticks) = object_named k t Barrier id
-queue_named k t (BarrierRelease id var) = object_named k t Barrier id
-queue_named k t (BarrierDelete id) = object_named k t Barrier id
+-- a barrier and a semaphore of these indices as objects with a queue
+abbrev pub of_barrier : Option ℕ → Option Object
+of_barrier None = None
+of_barrier (Some i) = Some (OfBarrier i)
+
+abbrev pub of_semaphore : Option ℕ → Option Object
+of_semaphore None = None
+of_semaphore (Some i) = Some (OfSemaphore i)
+
+-- the object whose queue a line of a caller may change, if there is one
+abbrev pub queue_named : Plain → ℕ → Op → Option Object
+queue_named k t (SemObtain id wish) = of_semaphore (object_named k t Semaphore id)
+queue_named k t (SemRelease id) = of_semaphore (object_named k t Semaphore id)
+queue_named k t (SemFlush id) = of_semaphore (object_named k t Semaphore id)
+queue_named k t (SemDelete id) = of_semaphore (object_named k t Semaphore id)
+queue_named k t (BarrierWait id ticks) = of_barrier (object_named k t Barrier id)
+queue_named k t (BarrierRelease id var) = of_barrier (object_named k t Barrier id)
+queue_named k t (BarrierDelete id) = of_barrier (object_named k t Barrier id)
 queue_named k t op = None
 
 -- the period on which a line of a caller calls, if it calls on one
@@ -36,3 +55,12 @@ abbrev pub period_called : Plain → ℕ → Op → Option ℕ
 period_called k t (PeriodPeriod id length) = object_named k t Period id
 period_called k t (PeriodCancel id) = object_named k t Period id
 period_called k t op = None
+
+-- the limit in ticks of one who wishes so; 0 where there is none
+abbrev pub ticks_of : Wish → ℕ
+ticks_of NoWait = 0
+ticks_of (Limit ticks) = ticks
+
+-- a caller deletes a semaphore that it has found
+abbrev pub deleted_at : Plain → ℕ → Outcome
+deleted_at k i = if is_owned (semaphore_at k i) then Refused ResourceInUse else done 0 (without_semaphore k i)

@@ -16,7 +16,7 @@ use Rattle.rk_model.specs.State.{Plain}
 use Rattle.rk_model.specs.declared.waiting.Wake.{Wake}
 use Rattle.rk_model.specs.Lists.{times}
 use Rattle.rk_model.specs.Directives.Objects.{has_begun, create}
-use Rattle.rk_model.specs.Directives.Waits.{OfBarrier, object_of_wait, is_for, stop_wait}
+use Rattle.rk_model.specs.Directives.Waits.{Object, object_of_wait, is_for, arrivals_in, stop_wait}
 use Rattle.rk_model.specs.Directives.Outcomes.{Outcome, Refused, done, answer_of, changed}
 use Rattle.rk_parts.specs.declared.parts.ClusterPart.{ClusterPart}
 use Rattle.rk_parts.specs.declared.parts.GroupPart.{GroupPart}
@@ -25,7 +25,7 @@ use Rattle.rk_model.specs.declared.limits.TheConstants.{MOST_OBJECTS}
 use Rattle.rk_model.specs.Directives.Periods.{end_of}
 use Rattle.rk_model.specs.Scheduling.Timers.{times_armed}
 use Rattle.rk_period.specs.Periods.{Fits, waits_for}
-use Rattle.rk_parts.specs.Joined.{no_scenario, joined, plain_of, present_of, thread_lent, barrier_lent, period_lent, timers_lent}
+use Rattle.rk_parts.specs.Joined.{no_scenario, joined, plain_of, present_of, semaphores_of, barriers_of, thread_lent, period_lent, timers_lent}
 use Rattle.rk_parts.specs.Groups.{GroupFrame, group_frames}
 use Rattle.rk_parts.specs.Lent.{AreLaid, layouts, stored, frame}
 
@@ -108,9 +108,9 @@ pub record DoesAll (o : Outcome) (answer : Answer) (before after : AllParts) : T
 abbrev pub lent_both : List ClusterPart → List GroupPart → Plain
 lent_both parts groups = joined no_scenario no_objects parts groups
 
--- In the queue of the barrier of an index stand exactly the lent threads that wait there, each once.
-abbrev pub IsQueueOf : List ClusterPart → List GroupPart → ℕ → Type 0
-IsQueueOf parts groups i = (t : ℕ) → times t (barrier_lent groups i).arrivals ≡ (if is_for (object_of_wait (thread_lent parts t).wait) (OfBarrier i) then 1 else 0)
+-- In the queue of an object stand exactly the lent threads that wait for it, each once.
+abbrev pub IsQueueOf : List ClusterPart → List GroupPart → Object → Type 0
+IsQueueOf parts groups object = (t : ℕ) → times t (arrivals_in (barriers_of groups) (semaphores_of groups) object) ≡ (if is_for (object_of_wait (thread_lent parts t).wait) object then 1 else 0)
 
 -- the state in which waits of threads have ended that had left their queues before
 abbrev pub woken : Plain → List Wake → Plain

@@ -9,12 +9,14 @@ use Rattle.rk_model.specs.declared.state.Armed.{Armed}
 use Rattle.rk_model.specs.declared.state.Armer.TheVariants.{Thread as OfThread}
 use Rattle.rk_model.specs.declared.entry.Reply.{Reply}
 use Rattle.rk_model.specs.declared.state.Wait.{Wait}
-use Rattle.rk_model.specs.declared.state.Wait.TheVariants.{ForTime, ForEvents, AtBarrier, ForPeriod}
+use Rattle.rk_model.specs.declared.state.Wait.TheVariants.{ForTime, ForEvents, AtBarrier, ForPeriod, ForSemaphore}
 use Rattle.rk_model.specs.Lists.{has, times, nth}
 use Rattle.rk_model.specs.Directives.Lines.{kind_at, is_act}
 use Rattle.rk_model.specs.Directives.Waits.{Object, object_of_wait, is_for, arrivals_in}
-use Rattle.rk_model.specs.State.{Plain, ClusterState, BarrierState, objects_of, no_thread, no_cluster, thread_at, op_at}
+use Rattle.rk_model.specs.State.{Plain, ClusterState, SemaphoreState, BarrierState, objects_of, no_thread, no_semaphore, no_cluster, thread_at, op_at}
 use Rattle.rk_model.specs.Scheduling.Priorities.{is_started, is_eligible}
+use Rattle.rk_model.specs.Scheduling.Chains.{Ends, owner_awaited}
+use Rattle.rk_model.specs.Directives.Objects.{has_begun}
 use Rattle.rk_model.specs.Scheduling.ReadyQueues.{has_cpu}
 use Rattle.rk_model.specs.Scheduling.Running.{cpu_count}
 use Rattle.rk_model.specs.Scheduling.Timers.{times_armed}
@@ -41,6 +43,7 @@ may_time_out (Some ForTime) = true
 may_time_out (Some (ForEvents set all)) = true
 may_time_out (Some (AtBarrier i)) = true
 may_time_out (Some (ForPeriod i)) = false
+may_time_out (Some (ForSemaphore i)) = true
 
 -- whether a thread is of this home and waits for what may have a limit
 abbrev pub waits_in : List Thread → ℕ → ℕ → Bool
@@ -120,19 +123,29 @@ is_asleep (Some ForTime) = true
 is_asleep (Some (ForEvents set all)) = false
 is_asleep (Some (AtBarrier i)) = false
 is_asleep (Some (ForPeriod i)) = false
+is_asleep (Some (ForSemaphore i)) = false
 
 -- A thread stands in the queue of an object once where it waits for that object, and in no other queue.
-abbrev pub IsQueued : List BarrierState → List Thread → ℕ → Type 0
-IsQueued barriers threads t = (object : Object) → times t (arrivals_in barriers object) ≡ (if is_for (object_of_wait (nth no_thread threads t).wait) object then 1 else 0)
+abbrev pub IsQueued : List BarrierState → List SemaphoreState → List Thread → ℕ → Type 0
+IsQueued barriers semaphores threads t = (object : Object) → times t (arrivals_in barriers semaphores object) ≡ (if is_for (object_of_wait (nth no_thread threads t).wait) object then 1 else 0)
 
 -- A thread that sleeps has a timer in its home.
 abbrev pub WillWake : List Thread → List ClusterState → ℕ → Type 0
 WillWake threads clusters t = is_asleep (nth no_thread threads t).wait ≡ true → 1 ≤ times_armed (OfThread t) (slice_index_or clusters (nth no_thread threads t).home no_cluster).timers
 
 -- Waits agree with queues and timers, but for some threads.
-pub record AreTied (barriers : List BarrierState) (threads : List Thread) (clusters : List ClusterState) (but : ℕ → Bool) : Type 0 where
-  pub queued : (t : ℕ) → but t ≡ false → IsQueued barriers threads t
+pub record AreTied (barriers : List BarrierState) (semaphores : List SemaphoreState) (threads : List Thread) (clusters : List ClusterState) (but : ℕ → Bool) : Type 0 where
+  pub queued : (t : ℕ) → but t ≡ false → IsQueued barriers semaphores threads t
   pub wakes : (t : ℕ) → but t ≡ false → WillWake threads clusters t
+
+-- The thread on which a thread waits, where some threads wait on none, whatever they wait for.
+abbrev pub waits_on_but : List SemaphoreState → List Thread → (ℕ → Bool) → ℕ → Option ℕ
+waits_on_but semaphores threads but t = if but t then None else owner_awaited semaphores (nth no_thread threads t).wait
+
+-- Who owns a semaphore lives; and each chain of threads of which each waits on the next ends, where some threads wait on none.
+pub record AreChained (semaphores : List SemaphoreState) (threads : List Thread) (but : ℕ → Bool) : Type 0 where
+  pub owners : (i t : ℕ) → (nth no_semaphore semaphores i).owner ≡ Some t → has_begun (nth no_thread threads t).life ≡ true
+  pub ends : (t : ℕ) → Ends (waits_on_but semaphores threads but) t
 
 -- for no thread, and for one
 abbrev pub but_none : ℕ → Bool
@@ -141,9 +154,10 @@ but_none t = false
 abbrev pub but_one : ℕ → ℕ → Bool
 but_one t u = u == t
 
--- A state that a run may reach: sizes and numbers are within their limits, its bodies may be run, each thread is in bounds, each cluster is sound, names and objects agree, waits agree with queues and timers, and periods with their creators and timers.
+-- A state that a run may reach: sizes and numbers are within their limits, its bodies may be run, each thread is in bounds, each cluster is sound, names and objects agree, waits agree with queues and timers, periods agree with their creators and timers, who owns a semaphore lives, and chains of waits end.
 pub record IsSound (k : Plain) : Type 0 where
   pub places : length k.threads ≡ MOST_OBJECTS
+  pub locks : length k.semaphores ≡ MOST_OBJECTS
   pub halls : length k.barriers ≡ MOST_OBJECTS
   pub pools : length k.partitions ≡ MOST_OBJECTS
   pub few_clusters : length k.clusters ≤ MOST_CLUSTERS
@@ -155,7 +169,8 @@ pub record IsSound (k : Plain) : Type 0 where
   pub threads : All (IsInBounds k.scenario (length k.clusters) k.present) k.threads
   pub clusters : AllSound k 0 k.clusters
   pub named : AreNamed k.table (objects_of k)
-  pub tied : AreTied k.barriers k.threads k.clusters but_none
+  pub tied : AreTied k.barriers k.semaphores k.threads k.clusters but_none
+  pub chained : AreChained k.semaphores k.threads but_none
   pub periods : ArePeriodsSound k
 
 -- Each cluster has its line and its processors as before.
@@ -170,18 +185,20 @@ abbrev pub AllTimed : List Thread → ℕ → List ClusterState → Type 0
 AllTimed threads c [] = Unit {0}
 AllTimed threads c (cluster ∷ clusters) = AreTimed threads c cluster.timers × AllTimed threads (c + 1) clusters
 
--- A change of a state k that settling makes sound again, where its periods are sound, but that the waits of some threads don't agree with queues and timers yet: lines and processors are still those of k, and names and objects agree.
+-- A change of a state k that settling makes sound again, where its periods are sound, but that the waits of some threads don't agree with queues and timers yet, and aren't counted in chains: lines and processors are still those of k, and names and objects agree.
 pub record IsGentleBut (k next : Plain) (but : ℕ → Bool) : Type 0 where
   pub scenario : next.scenario ≡ k.scenario
   pub present : next.present ≡ k.present
   pub places : length next.threads ≡ length k.threads
+  pub locks : length next.semaphores ≡ length k.semaphores
   pub halls : length next.barriers ≡ length k.barriers
   pub pools : length next.partitions ≡ length k.partitions
   pub threads : All (IsInBounds k.scenario (length k.clusters) k.present) next.threads
   pub lines : KeepsLines k.clusters next.clusters
   pub timers : AllTimed next.threads 0 next.clusters
   pub named : AreNamed next.table (objects_of next)
-  pub tied : AreTied next.barriers next.threads next.clusters but
+  pub tied : AreTied next.barriers next.semaphores next.threads next.clusters but
+  pub chained : AreChained next.semaphores next.threads but
 
 -- A change of a state that settling makes sound again, where its periods are sound.
 abbrev pub IsGentle : Plain → Plain → Type 0

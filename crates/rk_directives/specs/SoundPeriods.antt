@@ -10,7 +10,7 @@ use Rattle.rk_model.specs.declared.state.Armer.{Armer}
 use Rattle.rk_model.specs.declared.state.Armer.TheVariants.{Period as OfPeriod}
 use Rattle.rk_model.specs.declared.state.Thread.{Thread}
 use Rattle.rk_model.specs.declared.state.Wait.{Wait}
-use Rattle.rk_model.specs.declared.state.Wait.TheVariants.{ForTime, ForEvents, AtBarrier, ForPeriod}
+use Rattle.rk_model.specs.declared.state.Wait.TheVariants.{ForTime, ForEvents, AtBarrier, ForPeriod, ForSemaphore}
 use Rattle.rk_model.specs.Directives.Objects.{has_begun}
 use Rattle.rk_model.specs.Directives.Periods.{running_job, postponed_of, end_of, is_awaited}
 use Rattle.rk_model.specs.Scheduling.Timers.{is_same}
@@ -25,6 +25,7 @@ awaits (Some ForTime) = None
 awaits (Some (ForEvents set all)) = None
 awaits (Some (AtBarrier i)) = None
 awaits (Some (ForPeriod i)) = Some i
+awaits (Some (ForSemaphore i)) = None
 
 -- the ticks at which the timers of this one are due, in the order of arming
 abbrev pub dues_of : Armer → List Armed → List ℕ

@@ -15,7 +15,9 @@ ghost use Rattle.rk_model.specs.Steps.{action, back, directive, is_wide};
 ghost use Rattle.rk_model.specs.Directives.Barriers.{barrier_delete};
 ghost use Rattle.rk_model.specs.Directives.Partitions.{partition_delete};
 ghost use Rattle.rk_model.specs.Directives.Periods.{period_delete};
+ghost use Rattle.rk_model.specs.Directives.Semaphores.{semaphore_create, semaphore_delete};
 ghost use Rattle.rk_model.specs.Directives.Tasks.{task_delete};
+ghost use Rattle.rk_model.specs.Directives.Waits.{Object};
 ghost use Rattle.rk_directives.specs.Does.{Does, DoesAll, DoesBoth, IsQueueOf, MayCall, lent_both};
 ghost use Rattle.rk_directives.specs.Calls.{IsActing, period_called, queue_named};
 ghost use Rattle.rk_parts.specs.Joined.{plain_of, thread_lent, timers_lent};
@@ -29,11 +31,15 @@ use crate::partitions::{
     partition_create, partition_delete, partition_get, partition_ident, partition_return,
 };
 use crate::periods::{period_cancel, period_create, period_delete, period_ident, period_period};
+use crate::semaphores::{
+    semaphore_create, semaphore_delete, semaphore_flush, semaphore_ident, semaphore_obtain,
+    semaphore_release,
+};
 use crate::tasks::{
     task_create, task_delete, task_exit, task_ident, task_resume, task_set_priority, task_start,
     task_suspend, task_wake_after,
 };
-use rk_model::{Answer, Op, Reply, Scenario, Target, Thread, ThreadIx};
+use rk_model::{Answer, Name, Op, Reply, Scenario, SemSpec, Target, Thread, ThreadIx};
 use rk_parts::lent::{renew, thread_of};
 use rk_parts::parts::{AllParts, ClusterPart, GroupPart};
 
@@ -63,7 +69,7 @@ fn perform_narrow(
     requires lives { has_begun (thread_lent clusters.old caller).life ≡ true }
     requires unarmed { times_armed (OfThread caller) (timers_lent clusters.old caller) ≡ 0 }
     requires free { (thread_lent clusters.old caller).wait ≡ None }
-    requires queue { (i : ℕ) → queue_named (lent_both clusters.old groups.old) caller op ≡ Some i → IsQueueOf clusters.old groups.old i }
+    requires queue { (object : Object) → queue_named (lent_both clusters.old groups.old) caller op ≡ Some object → IsQueueOf clusters.old groups.old object }
     requires period { (i : ℕ) → period_called (lent_both clusters.old groups.old) caller op ≡ Some i → MayCall clusters.old groups.old i caller }
     requires bodies { AreRunnable scenario.now.bodies }
     ensures { DoesBoth scenario.now (λ k. directive k caller (Some op)) result clusters.old groups.old clusters.new groups.new }
@@ -76,6 +82,9 @@ fn perform_narrow(
         Op::TaskWakeAfter(ticks) => task_wake_after(clusters, caller, ticks),
         Op::EventSend(id, set) => event_send(clusters, groups, caller, id, set),
         Op::EventReceive(set, all, wish, _) => event_receive(clusters, caller, set, all, wish),
+        Op::SemObtain(id, wish) => semaphore_obtain(clusters, groups, caller, id, wish),
+        Op::SemRelease(id) => semaphore_release(clusters, groups, caller, id),
+        Op::SemFlush(id) => semaphore_flush(clusters, groups, caller, id),
         Op::BarrierWait(id, ticks) => barrier_wait(clusters, groups, caller, id, ticks),
         Op::BarrierRelease(id, _) => barrier_release(clusters, groups, caller, id),
         Op::PartGet(id, _) => partition_get(clusters, groups, caller, id),
@@ -87,6 +96,9 @@ fn perform_narrow(
         Op::TaskCreate(_, _, _)
         | Op::TaskIdent(_, _)
         | Op::TaskDelete(_)
+        | Op::SemCreate(_, _, _)
+        | Op::SemIdent(_, _)
+        | Op::SemDelete(_)
         | Op::BarrierCreate(_, _, _, _)
         | Op::BarrierIdent(_, _)
         | Op::BarrierDelete(_)
@@ -106,6 +118,42 @@ fn perform_task_delete(all: &mut AllParts, caller: ThreadIx, id: Target) -> Answ
     ensures { DoesAll (task_delete (plain_of all.old) caller id) result all.old all.new }
 {
     task_delete(
+        &mut all.clusters,
+        &mut all.groups,
+        &mut all.table.names,
+        caller,
+        id,
+    )
+}
+
+/// Makes a semaphore, on all parts.
+fn perform_semaphore_create(
+    all: &mut AllParts,
+    caller: ThreadIx,
+    name: Name,
+    spec: SemSpec,
+) -> Answer
+    requires acts { IsActing (plain_of all.old) caller }
+    requires whole { AreWhole all.old }
+    ensures { DoesAll (semaphore_create (plain_of all.old) caller name.bits spec) result all.old all.new }
+{
+    semaphore_create(
+        &all.clusters,
+        &mut all.groups,
+        &mut all.table.names,
+        caller,
+        name,
+        spec,
+    )
+}
+
+/// Deletes a semaphore, on all parts.
+fn perform_semaphore_delete(all: &mut AllParts, caller: ThreadIx, id: Target) -> Answer
+    requires acts { IsActing (plain_of all.old) caller }
+    requires whole { AreWhole all.old }
+    ensures { DoesAll (semaphore_delete (plain_of all.old) caller id) result all.old all.new }
+{
+    semaphore_delete(
         &mut all.clusters,
         &mut all.groups,
         &mut all.table.names,
@@ -171,6 +219,9 @@ fn perform(all: &mut AllParts, caller: ThreadIx, op: Op) -> Answer
         }
         Op::TaskIdent(name, _) => task_ident(&all.table.names, name),
         Op::TaskDelete(id) => perform_task_delete(all, caller, id),
+        Op::SemCreate(name, spec, _) => perform_semaphore_create(all, caller, name, spec),
+        Op::SemIdent(name, _) => semaphore_ident(&all.table.names, name),
+        Op::SemDelete(id) => perform_semaphore_delete(all, caller, id),
         Op::BarrierCreate(name, automatic, most, _) => barrier_create(
             &mut all.groups,
             &mut all.table.names,

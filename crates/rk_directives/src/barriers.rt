@@ -8,22 +8,20 @@ ghost use Rattle.rk_model.specs.declared.state.Armer.TheVariants.{Thread as OfTh
 ghost use Rattle.rk_model.specs.declared.status.Status.TheVariants.{Successful};
 ghost use Rattle.rk_model.specs.Directives.Barriers.{most_refusal, barrier_create, barrier_ident, end_at, barrier_wait, barrier_release, without_barrier, barrier_delete};
 ghost use Rattle.rk_model.specs.Directives.Objects.{has_begun, object_named};
-ghost use Rattle.rk_model.specs.Scheduling.Priorities.{home_prio};
+ghost use Rattle.rk_model.specs.Directives.Waits.{OfBarrier};
 ghost use Rattle.rk_model.specs.Scheduling.Timers.{times_armed};
 ghost use Rattle.rk_model.specs.State.{Plain};
 ghost use Rattle.rk_directives.specs.Does.{BecomesBoth, BecomesEvery, DoesBoth, DoesEvery, DoesGroups, IsQueueOf, Tells, lent_both, with_table};
 ghost use Rattle.rk_parts.specs.Groups.{is_lent};
-ghost use Rattle.rk_parts.specs.Joined.{barrier_lent, lent, thread_lent, timers_lent};
+ghost use Rattle.rk_parts.specs.Joined.{barrier_lent, thread_lent, timers_lent};
 ghost use Rattle.rk_parts.specs.NamesAgree.{IsNamed};
 
 use crate::objects::{bits_of, create, ident, remove};
 use crate::outcomes::done;
-use crate::waits::{start_limited, wake_all};
-use rk_model::{Answer, Caller, Class, Id, Name, Status, Target, ThreadIx, Wait};
+use crate::waits::{caller_of, start_limited, wake_all};
+use rk_model::{Answer, Class, Id, Name, Status, Target, ThreadIx, Wait};
 use rk_parts::groups::{self, is_live, wakes_of};
-use rk_parts::lent::thread_of;
 use rk_parts::parts::{ClusterPart, GroupPart};
-use rk_parts::standing::prio_at_home;
 use rk_parts::table::Table;
 
 /// The index of the barrier that a caller asks for; `None` exactly where the id is unknown.
@@ -44,19 +42,6 @@ fn barrier_named(
         Some(index)
     } else {
         None
-    }
-}
-
-/// The caller as a manager sees it.
-fn caller_of(clusters: &[ClusterPart], caller: ThreadIx) -> Caller
-    ensures thread { result.thread ≡ caller }
-    ensures home { result.home ≡ (thread_lent clusters.now caller).home }
-    ensures prio { result.prio ≡ home_prio (lent clusters.now) caller }
-{
-    Caller {
-        thread: caller,
-        home: thread_of(clusters, caller).home,
-        prio: prio_at_home(clusters, caller),
     }
 }
 
@@ -115,7 +100,7 @@ pub(crate) fn barrier_wait(
     requires lives { has_begun (thread_lent clusters.old caller).life ≡ true }
     requires free { (thread_lent clusters.old caller).wait ≡ None }
     requires unarmed { times_armed (OfThread caller) (timers_lent clusters.old caller) ≡ 0 }
-    requires queue { (i : ℕ) → object_named (lent_both clusters.old groups.old) caller Barrier id ≡ Some i → IsQueueOf clusters.old groups.old i }
+    requires queue { (i : ℕ) → object_named (lent_both clusters.old groups.old) caller Barrier id ≡ Some i → IsQueueOf clusters.old groups.old (OfBarrier i) }
     ensures { (s : ScenarioView) → DoesBoth s (λ k. barrier_wait k caller id ticks) result clusters.old groups.old clusters.new groups.new }
 {
     match barrier_named(clusters, groups, caller, id) {
@@ -138,7 +123,7 @@ fn release_all(clusters: &mut [ClusterPart], groups: &mut [GroupPart], index: u1
     requires low { 1 ≤ index }
     requires high { index ≤ MOST_OBJECTS }
     requires live { (barrier_lent groups.old index).live ≡ true }
-    requires queue { IsQueueOf clusters.old groups.old index }
+    requires queue { IsQueueOf clusters.old groups.old (OfBarrier index) }
     ensures state { (s : ScenarioView) → BecomesBoth s (λ k. end_at k index Successful) clusters.old groups.old clusters.new groups.new }
     ensures count { result ≡ length (barrier_lent groups.old index).arrivals }
 {
@@ -155,7 +140,7 @@ pub(crate) fn barrier_release(
     caller: ThreadIx,
     id: Target,
 ) -> Answer
-    requires queue { (i : ℕ) → object_named (lent_both clusters.old groups.old) caller Barrier id ≡ Some i → IsQueueOf clusters.old groups.old i }
+    requires queue { (i : ℕ) → object_named (lent_both clusters.old groups.old) caller Barrier id ≡ Some i → IsQueueOf clusters.old groups.old (OfBarrier i) }
     ensures { (s : ScenarioView) → DoesBoth s (λ k. barrier_release k caller id) result clusters.old groups.old clusters.new groups.new }
 {
     match barrier_named(clusters, groups, caller, id) {
@@ -174,7 +159,7 @@ fn without_barrier(
     requires low { 1 ≤ index }
     requires high { index ≤ MOST_OBJECTS }
     requires live { (barrier_lent groups.old index).live ≡ true }
-    requires queue { IsQueueOf clusters.old groups.old index }
+    requires queue { IsQueueOf clusters.old groups.old (OfBarrier index) }
     requires named { IsNamed names.old.barriers (λ i. (barrier_lent groups.old i).live) }
     ensures { (s : ScenarioView) → BecomesEvery s (λ k. without_barrier k index) clusters.old groups.old names.old clusters.new groups.new names.new }
 {
@@ -192,7 +177,7 @@ pub(crate) fn barrier_delete(
     caller: ThreadIx,
     id: Target,
 ) -> Answer
-    requires queue { (i : ℕ) → object_named (lent_both clusters.old groups.old) caller Barrier id ≡ Some i → IsQueueOf clusters.old groups.old i }
+    requires queue { (i : ℕ) → object_named (lent_both clusters.old groups.old) caller Barrier id ≡ Some i → IsQueueOf clusters.old groups.old (OfBarrier i) }
     requires named { IsNamed names.old.barriers (λ i. (barrier_lent groups.old i).live) }
     ensures { (s : ScenarioView) → DoesEvery s (λ k. barrier_delete k caller id) result clusters.old groups.old names.old clusters.new groups.new names.new }
 {

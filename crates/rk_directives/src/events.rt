@@ -52,7 +52,11 @@ fn seized_by(pending: u32, wait: Option<Wait>) -> Option<u32>
 {
     match wait {
         Some(Wait::ForEvents(set, all)) => receive(pending, set, all),
-        Some(Wait::ForTime) | Some(Wait::AtBarrier(_)) | Some(Wait::ForPeriod(_)) | None => None,
+        Some(Wait::ForTime)
+        | Some(Wait::AtBarrier(_))
+        | Some(Wait::ForPeriod(_))
+        | Some(Wait::ForSemaphore(_))
+        | None => None,
     }
 }
 

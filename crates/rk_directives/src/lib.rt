@@ -4,10 +4,12 @@
 
 pub mod actions;
 mod barriers;
+mod chains;
 mod events;
 mod objects;
 pub mod outcomes;
 mod partitions;
 pub mod periods;
+mod semaphores;
 mod tasks;
 pub mod waits;

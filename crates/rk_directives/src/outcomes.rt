@@ -34,6 +34,8 @@ fn result_var(op: Option<Op>) -> Option<u8>
         Some(Op::TaskIdent(_, var)) => Some(var),
         Some(Op::TaskSetPriority(_, _, var)) => Some(var),
         Some(Op::EventReceive(_, _, _, var)) => Some(var),
+        Some(Op::SemCreate(_, _, var)) => Some(var),
+        Some(Op::SemIdent(_, var)) => Some(var),
         Some(Op::BarrierCreate(_, _, _, var)) => Some(var),
         Some(Op::BarrierIdent(_, var)) => Some(var),
         Some(Op::BarrierRelease(_, var)) => Some(var),

@@ -1,18 +1,19 @@
 //! The directives of the task manager.
 
-ghost use Rattle.std.specs.Prelude.{◌≡◌, IfSome, IsSome, [], true};
+ghost use Rattle.std.specs.Prelude.{◌≡◌, ◌||◌, IfSome, IsSome, [], true};
 ghost use Rattle.rk_model.specs.declared.ids.Class.TheVariants.{Task};
 ghost use Rattle.rk_model.specs.declared.scenario.Scenario.{Scenario as ScenarioView};
 ghost use Rattle.rk_model.specs.declared.state.Armer.TheVariants.{Thread as OfThread};
 ghost use Rattle.rk_model.specs.declared.state.Life.TheVariants.{Started};
 ghost use Rattle.rk_model.specs.State.{Plain};
 ghost use Rattle.rk_model.specs.Directives.Objects.{has_begun, object_of};
-ghost use Rattle.rk_model.specs.Directives.Tasks.{task_of, task_named, dormant_in, prio_refusal, task_create, task_ident, is_dormant, task_start, task_suspend, task_resume, task_set_priority, without_task, task_delete, task_exit, task_wake_after};
+ghost use Rattle.rk_model.specs.Directives.Semaphores.{has_obtained};
+ghost use Rattle.rk_model.specs.Directives.Tasks.{has_created, task_of, task_named, dormant_in, prio_refusal, task_create, task_ident, is_dormant, task_start, task_suspend, task_resume, task_set_priority, without_task, task_delete, task_exit, task_wake_after};
 ghost use Rattle.rk_model.specs.Directives.Outcomes.{arrived};
 ghost use Rattle.rk_model.specs.Limits.{AreRunnable};
 ghost use Rattle.rk_model.specs.Scheduling.Timers.{times_armed};
 ghost use Rattle.rk_directives.specs.Does.{BecomesEvery, Does, DoesEvery, DoesWide, Tells, with_table};
-ghost use Rattle.rk_parts.specs.Joined.{lent, thread_lent, timers_lent};
+ghost use Rattle.rk_parts.specs.Joined.{lent, periods_of, semaphores_of, thread_lent, timers_lent};
 ghost use Rattle.rk_parts.specs.Lent.{number_in, Puts};
 ghost use Rattle.rk_parts.specs.NamesAgree.{IsNamed};
 
@@ -28,6 +29,7 @@ use rk_parts::groups::leave;
 use rk_parts::lent::{make, put, remove as remove_thread, thread_of};
 use rk_parts::parts::{ClusterPart, GroupPart};
 use rk_parts::periods::has_created;
+use rk_parts::semaphores::has_obtained;
 use rk_parts::standing::prio_at_home;
 use rk_parts::table::Table;
 use rk_parts::timers::cancel;
@@ -294,9 +296,16 @@ fn without_task(
     remove(names, Class::Task, u16::from(task.at()));
 }
 
+/// Whether a task owns a semaphore, or created a period that lives.
+fn is_in_use(groups: &[GroupPart], task: ThreadIx) -> bool
+    ensures { result ≡ (has_obtained (semaphores_of groups.now) task || has_created (periods_of groups.now) task) }
+{
+    has_obtained(groups, task) || has_created(groups, task)
+}
+
 /// `task.delete` (`rtems_task_delete`): ends the life of a task; a caller that deletes itself doesn't
-/// go on. It refuses with `INVALID_ID` where the task is unknown, and with `RESOURCE_IN_USE` where it
-/// created a period that lives.
+/// go on. It refuses with `INVALID_ID` where the task is unknown, and with `RESOURCE_IN_USE` where it owns
+/// a semaphore or created a period that lives.
 pub(crate) fn task_delete(
     clusters: &mut [ClusterPart],
     groups: &mut [GroupPart],
@@ -311,7 +320,7 @@ pub(crate) fn task_delete(
     match task_named(clusters, caller, id) {
         None => Answer::Refused(Status::InvalidId),
         Some(task) => {
-            if has_created(groups, task) {
+            if is_in_use(groups, task) {
                 return Answer::Refused(Status::ResourceInUse);
             }
             without_task(clusters, groups, names, task);

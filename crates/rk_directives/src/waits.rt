@@ -5,17 +5,32 @@ ghost use Rattle.rk_model.specs.declared.scenario.Scenario.{Scenario as Scenario
 ghost use Rattle.rk_model.specs.declared.state.Armer.TheVariants.{Thread as OfThread};
 ghost use Rattle.rk_model.specs.Directives.Objects.{has_begun};
 ghost use Rattle.rk_model.specs.Directives.Waits.{start_limited, stop_wait, end_wait};
+ghost use Rattle.rk_model.specs.Scheduling.Priorities.{home_prio};
 ghost use Rattle.rk_model.specs.Scheduling.Timers.{times_armed};
 ghost use Rattle.rk_directives.specs.Does.{AllLive, Becomes, BecomesBoth, woken};
-ghost use Rattle.rk_parts.specs.Joined.{thread_lent, timers_lent};
+ghost use Rattle.rk_parts.specs.Joined.{lent, thread_lent, timers_lent};
 ghost use Rattle.rk_parts.specs.Lent.{Puts};
 
-use rk_model::{Armer, Reply, Thread, ThreadIx, Wait, Wake};
+use rk_model::{Armer, Caller, Reply, Thread, ThreadIx, Wait, Wake};
 use rk_parts::groups::leave;
 use rk_parts::lent::{put, thread_of};
 use rk_parts::parts::{ClusterPart, GroupPart};
+use rk_parts::standing::prio_at_home;
 use rk_parts::ticks::present;
 use rk_parts::timers::{arm, cancel};
+
+/// The caller as a manager sees it.
+pub(crate) fn caller_of(clusters: &[ClusterPart], caller: ThreadIx) -> Caller
+    ensures thread { result.thread ≡ caller }
+    ensures home { result.home ≡ (thread_lent clusters.now caller).home }
+    ensures prio { result.prio ≡ home_prio (lent clusters.now) caller }
+{
+    Caller {
+        thread: caller,
+        home: thread_of(clusters, caller).home,
+        prio: prio_at_home(clusters, caller),
+    }
+}
 
 /// Lets the caller wait, without a limit.
 pub(crate) fn start_wait(clusters: &mut [ClusterPart], caller: ThreadIx, wait: Wait)

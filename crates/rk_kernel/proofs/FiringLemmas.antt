@@ -20,7 +20,7 @@ use Rattle.rk_model.specs.Scheduling.Ticks.{rung, expire, fire, fire_each}
 use Rattle.rk_model.specs.Directives.Periods.{end_passed}
 use Rattle.rk_model.specs.Directives.Waits.{end_wait, reply_at_timer}
 use Rattle.rk_model.specs.declared.state.Wait.{Wait}
-use Rattle.rk_model.specs.declared.state.Wait.TheVariants.{ForTime, ForEvents, AtBarrier, ForPeriod}
+use Rattle.rk_model.specs.declared.state.Wait.TheVariants.{ForTime, ForEvents, AtBarrier, ForPeriod, ForSemaphore}
 use Rattle.rk_parts.specs.declared.parts.ClusterPart.{ClusterPart}
 use Rattle.rk_parts.specs.declared.parts.GroupPart.{GroupPart}
 use Rattle.rk_parts.specs.declared.parts.AllParts.{AllParts}
@@ -127,6 +127,7 @@ awaits_none (Some ForTime) h = refl
 awaits_none (Some (ForEvents set all)) h = refl
 awaits_none (Some (AtBarrier i)) h = refl
 awaits_none (Some (ForPeriod i)) h = absurd (false≢true h)
+awaits_none (Some (ForSemaphore i)) h = refl
 
 -- a timer of a thread that fires leaves periods alone
 pub keeps_expired : (k : Plain) (c t : ℕ) (xs : List Armed) (x : Armed) → IsSound k → c < length k.clusters → due_now k c ≡ x ∷ xs → x.who ≡ OfThread t → KeepsPeriods k (expire k c (OfThread t))

@@ -11,7 +11,7 @@ use Rattle.rk_model.specs.Lists.{nth, times}
 use Rattle.rk_model.specs.declared.ids.Class.{Class}
 use Rattle.rk_model.specs.declared.ids.Class.TheVariants.{Task, Semaphore, Partition, Period, Barrier}
 use Rattle.rk_model.specs.Names.{Names, Table, names_of, with_names, no_objects, indices, taken}
-use Rattle.rk_model.specs.State.{BarrierState, Objects, PartitionState, PeriodState, no_barrier, no_partition, no_period, no_thread}
+use Rattle.rk_model.specs.State.{Objects, SemaphoreState, BarrierState, PartitionState, PeriodState, no_thread, no_semaphore, no_barrier, no_partition, no_period}
 use Rattle.rk_model.specs.Directives.Objects.{has_begun, begun_in}
 use Rattle.rk_model.specs.Histories.{begun, places, named_from, begun_names}
 use Rattle.rk_ids.specs.LiveObjects.{IsSplit}
@@ -62,7 +62,16 @@ blank_place s (suc n) (init ∷ inits) (suc i) none = blank_place s n inits i no
 abbrev pub begun_table : List Init → Table
 begun_table inits = record no_objects { tasks = begun_names inits }
 
--- where there are places alone there is no barrier
+-- where there are places alone there is no semaphore
+pub none_locks : (i : ℕ) → nth no_semaphore (replicate 64 no_semaphore) i ≡ no_semaphore
+none_locks zero = refl
+none_locks (suc i) = no_lock 64 i where
+  no_lock : (n i : ℕ) → get_or (replicate n no_semaphore) i no_semaphore ≡ no_semaphore
+  no_lock zero i = refl
+  no_lock (suc n) zero = refl
+  no_lock (suc n) (suc i) = no_lock n i
+
+-- nor a barrier
 pub no_hall : (n i : ℕ) → get_or (replicate n no_barrier) i no_barrier ≡ no_barrier
 no_hall zero i = refl
 no_hall (suc n) zero = refl
@@ -72,7 +81,7 @@ pub none_stands : (i : ℕ) → nth no_barrier (replicate 64 no_barrier) i ≡ n
 none_stands zero = refl
 none_stands (suc i) = no_hall 64 i
 
--- nor a partition
+-- a partition
 pub no_pool : (n i : ℕ) → get_or (replicate n no_partition) i no_partition ≡ no_partition
 no_pool zero i = refl
 no_pool (suc n) zero = refl
@@ -82,6 +91,7 @@ none_divided : (i : ℕ) → nth no_partition (replicate 64 no_partition) i ≡ 
 none_divided zero = refl
 none_divided (suc i) = no_pool 64 i
 
+-- or a period
 pub none_timed : (i : ℕ) → nth no_period (replicate 64 no_period) i ≡ no_period
 none_timed zero = refl
 none_timed (suc i) = no_place_of 64 i where
@@ -92,16 +102,13 @@ none_timed (suc i) = no_place_of 64 i where
 
 -- the objects where these tasks alone have begun
 abbrev pub begun_objects : Scenario → List Init → Objects
-begun_objects s inits = record { threads = places 64 (map (begun s) inits); barriers = replicate 64 no_barrier; partitions = replicate 64 no_partition; periods = replicate 64 no_period }
+begun_objects s inits = record { threads = places 64 (map (begun s) inits); semaphores = replicate 64 no_semaphore; barriers = replicate 64 no_barrier; partitions = replicate 64 no_partition; periods = replicate 64 no_period }
 
 pub named_begun : (s : Scenario) (inits : List Init) → length inits ≤ 64 → AreNamed (begun_table inits) (begun_objects s inits)
-named_begun s inits few = record { class = class; blank = blank; bare = λ i _. none_stands i; unused = λ i _. none_divided i; idle = λ i _. none_timed i } where
-  nothing : (t : ℕ) → times t (indices (begun_table []).semaphores.live) ≡ 0
-  nothing t = refl
-
+named_begun s inits few = record { class = class; blank = blank; free = λ i _. none_locks i; bare = λ i _. none_stands i; unused = λ i _. none_divided i; idle = λ i _. none_timed i } where
   class : (c : Class) → IsNamed (names_of c (begun_table inits)) (begun_in (begun_objects s inits) c)
   class Task = record { split = split_begun inits few; live = λ t. ap (times t) (indices_from 1 inits) ∙ live_begun s 64 inits t few }
-  class Semaphore = record { split = split_none; live = nothing }
+  class Semaphore = record { split = split_none; live = λ t. ap (λ (x : SemaphoreState). cond x.live 1 0) (sym (none_locks t)) }
   class Partition = record { split = split_none; live = λ t. ap (λ (x : PartitionState). cond x.live 1 0) (sym (none_divided t)) }
   class Period = record { split = split_none; live = λ t. ap (λ (x : PeriodState). cond x.live 1 0) (sym (none_timed t)) }
   class Barrier = record { split = split_none; live = λ t. ap (λ (x : BarrierState). cond x.live 1 0) (sym (none_stands t)) }

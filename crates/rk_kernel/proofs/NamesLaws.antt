@@ -2,11 +2,11 @@
 use Rattle.std.proofs.Common.{◌≡◌, ℕ, ◌≤◌, ◌&&◌, false, cond, nat_le, arith, sym, ◌∙◌}
 use Rattle.std.proofs.lemmas.Bool.Decides.{nat_tests}
 use Rattle.rk_model.specs.declared.ids.Class.{Class}
-use Rattle.rk_model.specs.declared.ids.Class.TheVariants.{Task, Barrier, Partition, Period}
+use Rattle.rk_model.specs.declared.ids.Class.TheVariants.{Task, Semaphore, Barrier, Partition, Period}
 use Rattle.rk_model.specs.Names.{lives}
-use Rattle.rk_model.specs.State.{Plain, objects_of, no_thread, no_barrier, no_partition, no_period, thread_at, barrier_at, partition_at, period_at}
+use Rattle.rk_model.specs.State.{Plain, objects_of, no_thread, no_semaphore, no_barrier, no_partition, no_period, thread_at, semaphore_at, barrier_at, partition_at, period_at}
 use Rattle.rk_model.specs.Directives.Objects.{names_in}
-use Rattle.rk_kernel.specs.SchedulingLaws.{HasNames, NamesAndObjectsAgree, NothingIsLeftOfDeletedTasks, NothingIsLeftOfDeletedBarriers, NothingIsLeftOfDeletedPartitions, NothingIsLeftOfDeletedPeriods}
+use Rattle.rk_kernel.specs.SchedulingLaws.{HasNames, NamesAndObjectsAgree, NothingIsLeftOfDeletedTasks, NothingIsLeftOfDeletedSemaphores, NothingIsLeftOfDeletedBarriers, NothingIsLeftOfDeletedPartitions, NothingIsLeftOfDeletedPeriods}
 use Rattle.rk_directives.specs.Sound.{IsSound}
 use Rattle.rk_directives.proofs.NamesAgreeLemmas.{object_lives}
 use Rattle.rk_kernel.proofs.HistoryLemmas.{sound_after}
@@ -28,6 +28,12 @@ nothing_left k t sound dead = sound.named.blank t (sym (object_lives k.table (ob
 
 pub deleted_left : NothingIsLeftOfDeletedTasks
 deleted_left s xs is legal t dead = nothing_left _ t (sound_after s xs is legal) dead
+
+no_semaphore_left : (k : Plain) (i : ℕ) → IsSound k → lives (names_in k Semaphore) i ≡ false → semaphore_at k i ≡ no_semaphore
+no_semaphore_left k i sound dead = sound.named.free i (sym (object_lives k.table (objects_of k) Semaphore i sound.named) ∙ dead)
+
+pub semaphores_left : NothingIsLeftOfDeletedSemaphores
+semaphores_left s xs is legal i dead = no_semaphore_left _ i (sound_after s xs is legal) dead
 
 no_barrier_left : (k : Plain) (i : ℕ) → IsSound k → lives (names_in k Barrier) i ≡ false → barrier_at k i ≡ no_barrier
 no_barrier_left k i sound dead = sound.named.bare i (sym (object_lives k.table (objects_of k) Barrier i sound.named) ∙ dead)

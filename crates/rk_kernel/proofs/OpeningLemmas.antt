@@ -1,5 +1,5 @@
 -- The opening state is sound: it is the state with no task yet, changed gently and settled. How its tasks are started one after another.
-use Rattle.std.proofs.Common.{◌≡◌, ℕ, zero, suc, ◌+◌, ◌<◌, ◌≤◌, List, [], ◌∷◌, false, cond, ◌==◌, Option, None, Some, length, get_or, length-append, length-take, ◌++◌, take, map, replicate, arith, refl, ap, sym, ◌∙◌, subst}
+use Rattle.std.proofs.Common.{◌≡◌, ℕ, zero, suc, ◌+◌, ◌<◌, ◌≤◌, List, [], ◌∷◌, true, false, cond, ◌==◌, Option, None, Some, length, get_or, length-append, length-take, ◌++◌, take, map, replicate, arith, refl, ap, sym, ◌∙◌, subst}
 use Rattle.std.specs.List.{AllByRecursion, range_with_len, slice_set}
 use Rattle.std.proofs.lemmas.List.{length-replicate, length-map, map-append, take_more, take_all}
 use Rattle.std.proofs.lemmas.List.Elements.{All-from_recursion}
@@ -10,9 +10,11 @@ use Rattle.rk_model.specs.declared.state.Life.TheVariants.{Started}
 use Rattle.rk_model.specs.declared.state.Thread.{Thread}
 use Rattle.rk_model.specs.Lists.{nth, with_nth, times}
 use Rattle.rk_model.specs.Names.{Table, no_objects}
+use Rattle.rk_model.specs.Queues.{threads as waiting}
+use Rattle.rk_model.specs.Scheduling.Chains.{ends_on, owner_awaited}
 use Rattle.rk_model.specs.Directives.Objects.{has_begun}
-use Rattle.rk_model.specs.State.{Plain, BarrierState, ClusterState, PeriodState, no_thread, no_barrier, no_cluster, no_period, thread_at, put_thread, period_at, cluster_at}
-use Rattle.rk_model.specs.Directives.Waits.{OfBarrier, object_of_wait, is_for}
+use Rattle.rk_model.specs.State.{Plain, SemaphoreState, BarrierState, ClusterState, PeriodState, no_thread, no_semaphore, no_barrier, no_cluster, no_period, thread_at, put_thread, period_at, cluster_at}
+use Rattle.rk_model.specs.Directives.Waits.{OfBarrier, OfSemaphore, object_of_wait, is_for}
 use Rattle.rk_model.specs.Scheduling.Priorities.{is_eligible}
 use Rattle.rk_model.specs.Scheduling.ReadyQueues.{has_cpu}
 use Rattle.rk_model.specs.Scheduling.Running.{all_cpus}
@@ -22,9 +24,9 @@ use Rattle.rk_model.specs.Limits.{IsWithinLimits}
 use Rattle.rk_parts.specs.declared.parts.ClusterPart.{ClusterPart}
 use Rattle.rk_parts.specs.declared.parts.GroupPart.{GroupPart}
 use Rattle.rk_parts.specs.Joined.{joined, thread_lent}
-use Rattle.rk_kernel.proofs.InitNamesLemmas.{none_stands, none_timed, named_vacant, named_begun}
+use Rattle.rk_kernel.proofs.InitNamesLemmas.{none_locks, none_stands, none_timed, named_vacant, named_begun}
 use Rattle.rk_directives.proofs.ThreadBoundsLemmas.{none_bounds, arrived_bounds}
-use Rattle.rk_directives.specs.Sound.{stands, own, AllSound, IsInBounds, IsSound, AllTimed, IsGentle, CanSettle, IsQueued, AreTied, but_none, is_asleep}
+use Rattle.rk_directives.specs.Sound.{stands, own, AllSound, IsInBounds, IsSound, AllTimed, IsGentle, CanSettle, IsQueued, AreTied, AreChained, but_none, is_asleep}
 use Rattle.rk_directives.specs.SoundPeriods.{awaits, dues_of, IsPeriodSound, ArePeriodsSound}
 use Rattle.rk_directives.proofs.PeriodSoundLemmas.{none_sound}
 use Rattle.rk_model.specs.declared.state.Armer.TheVariants.{Period as OfPeriod}
@@ -95,13 +97,23 @@ all_begun s m (suc n) [] within some homes = (none_bounds s m 0 some, all_begun 
 all_begun s m (suc n) (init ∷ inits) within some homes = (bounds_begun s init m within homes.0, all_begun s m n inits within some homes.1)
 
 -- where no thread waits and nobody stands in a queue, waits agree with queues and timers
-tied_free : (threads : List Thread) (clusters : List ClusterState) → ((t : ℕ) → (nth no_thread threads t).wait ≡ None) → AreTied (replicate 64 no_barrier) threads clusters but_none
+tied_free : (threads : List Thread) (clusters : List ClusterState) → ((t : ℕ) → (nth no_thread threads t).wait ≡ None) → AreTied (replicate 64 no_barrier) (replicate 64 no_semaphore) threads clusters but_none
 tied_free threads clusters free = record {
   queued = λ t _. queue t;
   wakes = λ t _ asleep. absurd (false≢true (sym (ap is_asleep (free t)) ∙ asleep));
 } where
-  queue : (t : ℕ) → IsQueued (replicate 64 no_barrier) threads t
+  queue : (t : ℕ) → IsQueued (replicate 64 no_barrier) (replicate 64 no_semaphore) threads t
   queue t (OfBarrier i) = ap (λ (x : BarrierState). times t x.arrivals) (none_stands i) ∙ ap (λ w. cond (is_for (object_of_wait w) (OfBarrier i)) 1 0) (sym (free t))
+  queue t (OfSemaphore i) = ap (λ (x : SemaphoreState). times t (waiting x.queue.arrivals)) (none_locks i) ∙ ap (λ w. cond (is_for (object_of_wait w) (OfSemaphore i)) 1 0) (sym (free t))
+
+-- where no thread waits and there is no semaphore, each chain is one thread
+chained_free : (threads : List Thread) → ((t : ℕ) → (nth no_thread threads t).wait ≡ None) → AreChained (replicate 64 no_semaphore) threads but_none
+chained_free threads free = record { owners = λ i t owner. absurd (none_owns t (sym (ap (λ (x : SemaphoreState). x.owner) (none_locks i)) ∙ owner)); ends = λ t. (1, alone (owner_awaited (replicate 64 no_semaphore) (nth no_thread threads t).wait) (ap (owner_awaited (replicate 64 no_semaphore)) (free t))) } where
+  none_owns : (t : ℕ) → ◌≡◌ {A = Option ℕ} None (Some t) → ⊥
+  none_owns t e = let no : ⊥ = cc in no
+
+  alone : (o : Option ℕ) → o ≡ None → ends_on (λ t. false) o ≡ true
+  alone o e = rw e refl
 
 -- a task of an init line waits for nothing
 begun_waits : (s : Scenario) (n : ℕ) (inits : List Init) (t : ℕ) → (nth no_thread (places n (map (begun s) inits)) t).wait ≡ None
@@ -136,6 +148,7 @@ sound_vacant s within =
     let size : length (vacant s).clusters ≡ length s.clusters = length-map s.clusters free_cluster in
     record {
       places = length-places 64 [];
+      locks = refl;
       halls = refl;
       pools = refl;
       few_clusters = rw size within.few_clusters;
@@ -148,6 +161,7 @@ sound_vacant s within =
       clusters = all_free (vacant s) 0 s.clusters (no_place 64) within.few_cpus;
       named = named_vacant s;
       tied = tied_free (places 64 []) (vacant s).clusters (λ t. ap (λ (x : Thread). x.wait) (no_place 64 t));
+      chained = chained_free (places 64 []) (λ t. ap (λ (x : Thread). x.wait) (no_place 64 t));
       periods = periods_free (vacant s) refl (no_timers s) (λ t. ap (λ (x : Thread). x.wait) (no_place 64 t));
     }
 
@@ -159,6 +173,7 @@ gentle_started s within =
       scenario = refl;
       present = refl;
       places = length-places 64 (map (begun s) s.inits) ∙ sym (length-places 64 []);
+      locks = refl;
       halls = refl;
       pools = refl;
       threads = rw size (All-from_recursion (IsInBounds s (length s.clusters) 0) threads (all_begun s (length s.clusters) 64 s.inits within within.some_cluster within.homes));
@@ -166,6 +181,7 @@ gentle_started s within =
       timers = all_untimed threads 0 s.clusters;
       named = named_begun s s.inits within.few_inits;
       tied = tied_free threads (vacant s).clusters (begun_waits s 64 s.inits);
+      chained = chained_free threads (begun_waits s 64 s.inits);
     }
 
 pub started_settles : (s : Scenario) → IsWithinLimits s → CanSettle (vacant s) (started s)

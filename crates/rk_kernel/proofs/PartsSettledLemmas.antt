@@ -18,7 +18,7 @@ use Rattle.rk_model.specs.Text.Scenarios.{cpus_in}
 use Rattle.rk_parts.proofs.LentSeatLemmas.{cpu_count_joined}
 use Rattle.rk_parts.proofs.PutLemmas.{length_clusters}
 use Rattle.rk_parts.proofs.SettledPartLemmas.{same_stored}
-use Rattle.rk_parts.proofs.WholeLemmas.{Keeps, lent_whole, ticks_framed, barriers_framed, partitions_framed, periods_framed, whole_settled, plain_settled, all_noted_settled}
+use Rattle.rk_parts.proofs.WholeLemmas.{Keeps, lent_whole, ticks_framed, semaphores_framed, barriers_framed, partitions_framed, periods_framed, whole_settled, plain_settled, all_noted_settled}
 use Rattle.rk_directives.specs.Does.{Untouched, untouched}
 use Rattle.rk_kernel.specs.Ready.{IsReady}
 use Rattle.rk_directives.specs.Sound.{IsSound, CanSettle}
@@ -61,6 +61,7 @@ whole_kept old all whole present kept rest =
       numbers = λ c low. ap (λ (x : Stored). x.lined.number) (same_stored old.clusters all.clusters c store) ∙ whole.numbers c low;
       laid = subst (λ (s : Scenario). AreLaid s.clusters (layouts all.clusters)) (sym same) (subst (AreLaid old.scenario.clusters) (sym lie) whole.laid);
       groups = barriers_framed old.groups all.groups framed whole.groups;
+      semaphores = semaphores_framed old.groups all.groups framed whole.semaphores;
       partitions = partitions_framed old.groups all.groups framed whole.partitions;
       periods = periods_framed old.groups all.groups framed whole.periods;
       time = record {

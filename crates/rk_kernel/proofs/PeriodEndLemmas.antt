@@ -14,7 +14,7 @@ use Rattle.rk_model.specs.declared.state.Armer.{Armer}
 use Rattle.rk_model.specs.declared.state.Armer.TheVariants.{Thread as OfThread, Period as OfPeriod}
 use Rattle.rk_model.specs.declared.state.Thread.{Thread}
 use Rattle.rk_model.specs.declared.state.Wait.{Wait}
-use Rattle.rk_model.specs.declared.state.Wait.TheVariants.{ForTime, ForEvents, AtBarrier, ForPeriod}
+use Rattle.rk_model.specs.declared.state.Wait.TheVariants.{ForTime, ForEvents, AtBarrier, ForPeriod, ForSemaphore}
 use Rattle.rk_model.specs.declared.status.Status.TheVariants.{Successful}
 use Rattle.rk_model.specs.Lists.{has}
 use Rattle.rk_model.specs.State.{Plain, ClusterState, PeriodState, no_thread, no_cluster, thread_at, period_at, put_period, cluster_at}
@@ -198,6 +198,7 @@ waits_for_end (Some ForTime) i is = let no : ⊥ = cc in absurd no
 waits_for_end (Some (ForEvents set all)) i is = let no : ⊥ = cc in absurd no
 waits_for_end (Some (AtBarrier j)) i is = let no : ⊥ = cc in absurd no
 waits_for_end (Some (ForPeriod j)) i is = (refl, refl)
+waits_for_end (Some (ForSemaphore j)) i is = let no : ⊥ = cc in absurd no
 
 -- a thread that waits for a period has no timer
 unarmed : (k : Plain) (c t i : ℕ) → IsSound k → c < length k.clusters → awaits (thread_at k t).wait ≡ Some i → times_armed (OfThread t) (cluster_at k c).timers ≡ 0

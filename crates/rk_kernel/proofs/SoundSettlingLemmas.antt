@@ -5,7 +5,7 @@ use Rattle.rk_model.specs.declared.state.Armed.{Armed}
 use Rattle.rk_model.specs.declared.state.Armer.TheVariants.{Thread as OfThread}
 use Rattle.rk_model.specs.declared.state.Thread.{Thread}
 use Rattle.rk_model.specs.Lists.{nth, times}
-use Rattle.rk_model.specs.State.{Plain, BarrierState, ClusterState, no_thread, no_cluster, thread_at, period_at, cluster_at}
+use Rattle.rk_model.specs.State.{Plain, SemaphoreState, BarrierState, ClusterState, no_thread, no_cluster, thread_at, period_at, cluster_at}
 use Rattle.rk_model.specs.Scheduling.Timers.{times_armed}
 use Rattle.rk_model.specs.Scheduling.Priorities.{is_eligible, urgency, standings}
 use Rattle.rk_model.specs.Scheduling.ReadyQueues.{most_urgent}
@@ -86,8 +86,8 @@ timers-settled_from shift key n c [] i = refl
 timers-settled_from shift key n c (cluster ∷ clusters) zero = refl
 timers-settled_from shift key n c (cluster ∷ clusters) (suc i) = timers-settled_from shift key n (c + 1) clusters i
 
-tied_settled : (shift : ℕ → ℕ → Shift) (key : ℕ → ℕ → ℕ) (n : ℕ) (barriers : List BarrierState) (threads : List Thread) (clusters : List ClusterState) → AreTied barriers threads clusters but_none → AreTied barriers threads (settled_from shift key n 0 clusters) but_none
-tied_settled shift key n barriers threads clusters tied = record {
+tied_settled : (shift : ℕ → ℕ → Shift) (key : ℕ → ℕ → ℕ) (n : ℕ) (barriers : List BarrierState) (semaphores : List SemaphoreState) (threads : List Thread) (clusters : List ClusterState) → AreTied barriers semaphores threads clusters but_none → AreTied barriers semaphores threads (settled_from shift key n 0 clusters) but_none
+tied_settled shift key n barriers semaphores threads clusters tied = record {
   queued = tied.queued;
   wakes = λ t apart asleep. subst (λ (timers : List Armed). 1 ≤ times_armed (OfThread t) timers) (sym (timers-settled_from shift key n 0 clusters (nth no_thread threads t).home)) (tied.wakes t apart asleep);
 }
@@ -112,6 +112,7 @@ sound_settled k next last sound can =
     let same_length : length (settle k next last).clusters ≡ length k.clusters = length-settled k next last ∙ length-kept k.clusters next.clusters gentle.lines in
     record {
       places = gentle.places ∙ sound.places;
+      locks = gentle.locks ∙ sound.locks;
       halls = gentle.halls ∙ sound.halls;
       pools = gentle.pools ∙ sound.pools;
       few_clusters = rw same_length sound.few_clusters;
@@ -123,6 +124,7 @@ sound_settled k next last sound can =
       threads = rw (same_length, gentle.present, gentle.scenario) gentle.threads;
       clusters = subst (λ (x : Plain). AllSound x 0 x.clusters) (sym (settled_each k next last)) (all_sound k next last (each_settled k next last) 0 k.clusters next.clusters gentle.places sound.clusters gentle.lines gentle.timers);
       named = gentle.named;
-      tied = subst (λ (x : Plain). AreTied next.barriers next.threads x.clusters but_none) (sym (settled_each k next last)) (tied_settled (shifts (standings k) (standings next) last) (urgency next) (length next.threads) next.barriers next.threads next.clusters gentle.tied);
+      tied = subst (λ (x : Plain). AreTied next.barriers next.semaphores next.threads x.clusters but_none) (sym (settled_each k next last)) (tied_settled (shifts (standings k) (standings next) last) (urgency next) (length next.threads) next.barriers next.semaphores next.threads next.clusters gentle.tied);
+      chained = gentle.chained;
       periods = periods_settled k next last can.periods;
     }

@@ -1,5 +1,5 @@
 -- A tick that passes keeps a state sound, before any timer fires.
-use Rattle.std.proofs.Common.{◌≡◌, ℕ, zero, suc, ◌+◌, ◌-◌, ◌<◌, ◌≤◌, List, [], ◌∷◌, Bool, true, false, cond, eqb, ◌||◌, ◌&&◌, not, nat_lt, Option, None, Some, length, get_or, arith, refl, ap, sym, ◌∙◌, subst}
+use Rattle.std.proofs.Common.{◌≡◌, ℕ, zero, suc, ◌+◌, ◌-◌, ◌<◌, ◌≤◌, List, [], ◌∷◌, Bool, true, false, cond, eqb, ◌||◌, ◌&&◌, not, nat_lt, Option, None, Some, length, get_or, arith, refl, ap, sym, ◌∙◌, subst, inl}
 use Rattle.std.specs.List.{AllByRecursion, range_with_len}
 use Rattle.std.proofs.lemmas.Bool.Decides.{nat_tests}
 use Rattle.std.proofs.lemmas.List.Elements.{filter_agree, All-from_recursion, recursion_from_All}
@@ -7,17 +7,18 @@ use Rattle.rk_model.specs.declared.scenario.Scenario.{Scenario}
 use Rattle.rk_model.specs.declared.entry.What.TheVariants.{Tick, End}
 use Rattle.rk_model.specs.declared.state.Thread.{Thread}
 use Rattle.rk_model.specs.declared.state.Wait.{Wait}
-use Rattle.rk_model.specs.declared.state.Wait.TheVariants.{ForTime, ForEvents, AtBarrier, ForPeriod}
+use Rattle.rk_model.specs.declared.state.Wait.TheVariants.{ForTime, ForEvents, AtBarrier, ForPeriod, ForSemaphore}
 use Rattle.rk_model.specs.Lists.{times}
 use Rattle.rk_model.specs.State.{Plain, ClusterState, PeriodState, objects_of, no_thread, thread_at, period_at, cluster_at}
 use Rattle.rk_model.specs.Scheduling.Priorities.{is_eligible, is_started, is_no_wait, spins_in}
 use Rattle.rk_model.specs.Directives.Objects.{has_begun}
 use Rattle.rk_model.specs.Directives.Waits.{object_of_wait, is_for}
+use Rattle.rk_model.specs.Scheduling.Chains.{owner_awaited}
 use Rattle.rk_model.specs.Scheduling.Running.{least, runs_somewhere}
 use Rattle.rk_model.specs.Scheduling.Ticks.{charged, ticked, charge_from, pass, tick}
 use Rattle.rk_model.specs.Steps.{clock_of, clock_entry}
 use Rattle.rk_model.specs.Limits.{AreRunnable}
-use Rattle.rk_directives.specs.Sound.{IsSound, IsInBounds, AllSound, own, stands, waits_in, may_time_out, is_asleep}
+use Rattle.rk_directives.specs.Sound.{IsSound, IsInBounds, AllSound, AreChained, own, stands, waits_in, may_time_out, is_asleep, but_none}
 use Rattle.rk_directives.specs.SoundPeriods.{awaits, overdue, IsCounted, ArePeriodsSound}
 use Rattle.rk_model.specs.declared.period.Job.{Job}
 use Rattle.rk_model.specs.Directives.Periods.{running_job, end_of}
@@ -28,6 +29,7 @@ use Rattle.rk_model.specs.declared.state.Armer.TheVariants.{Thread as OfThread}
 use Rattle.rk_model.specs.Scheduling.Timers.{times_armed}
 use Rattle.rk_directives.proofs.NamesAgreeLemmas.{named_alike}
 use Rattle.rk_directives.proofs.ThreadBoundsLemmas.{arrived_bounds}
+use Rattle.rk_directives.proofs.WaitChainLemmas.{chained_loosened}
 
 -- what holds at each of two outcomes of a test holds of the choice
 by_test : {X : Type 0} (P : X → Type 0) (b : Bool) (x y : X) → (b ≡ true → P x) → (b ≡ false → P y) → P (cond b x y)
@@ -60,6 +62,7 @@ spins_alike k n (Some ForTime) = refl
 spins_alike k n (Some (ForEvents set all)) = refl
 spins_alike k n (Some (AtBarrier i)) = refl
 spins_alike k n (Some (ForPeriod i)) = refl
+spins_alike k n (Some (ForSemaphore i)) = refl
 
 eligible-pass : (k : Plain) (t : ℕ) → is_eligible (pass k) t ≡ is_eligible k t
 unfolding is_eligible
@@ -196,10 +199,16 @@ periods_pass k sound = record {
   waits = λ t i is. sound.waits t i (sym (ap awaits (waits-pass k t)) ∙ is);
 }
 
+-- Each thread waits for what it waited for, and the owners of semaphores live still.
+chained_pass : (k : Plain) → AreChained k.semaphores k.threads but_none → AreChained k.semaphores (pass k).threads but_none
+chained_pass k chained =
+    chained_loosened k.semaphores k.semaphores k.threads (pass k).threads but_none but_none (λ i t owner. begun-pass k t ∙ chained.owners i t owner) (λ t. inl (ap (owner_awaited k.semaphores) (waits-pass k t))) chained
+
 -- A tick below the horizon keeps a state sound.
 pub sound_pass : (k : Plain) → IsSound k → k.present < k.scenario.horizon → IsSound (pass k)
 sound_pass k sound below = record {
   places = length-charge_from k 1 k.threads ∙ sound.places;
+  locks = sound.locks;
   halls = sound.halls;
   pools = sound.pools;
   few_clusters = sound.few_clusters;
@@ -215,6 +224,7 @@ sound_pass k sound below = record {
     queued = λ t apart object. sound.tied.queued t apart object ∙ ap (λ w. cond (is_for (object_of_wait w) object) 1 0) (sym (waits-pass k t));
     wakes = λ t apart asleep. subst (λ d. 1 ≤ times_armed (OfThread t) (cluster_at k d).timers) (sym (homes-pass k t)) (sound.tied.wakes t apart (sym (ap is_asleep (waits-pass k t)) ∙ asleep));
   };
+  chained = chained_pass k sound.chained;
   periods = periods_pass k sound.periods;
 }
 

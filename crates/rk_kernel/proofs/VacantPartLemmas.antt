@@ -5,7 +5,7 @@ use Rattle.std.proofs.lemmas.List.{length-replicate, length-map, get_or-map, get
 use Rattle.rk_model.specs.declared.scenario.Scenario.{Scenario}
 use Rattle.rk_model.specs.declared.settling.Standing.{Standing}
 use Rattle.rk_model.specs.declared.state.Thread.{Thread}
-use Rattle.rk_model.specs.State.{no_thread, no_barrier, no_partition, no_period}
+use Rattle.rk_model.specs.State.{no_thread, no_semaphore, no_barrier, no_partition, no_period}
 use Rattle.rk_model.specs.Directives.Objects.{has_begun}
 use Rattle.rk_model.specs.Scheduling.Priorities.{no_standing}
 use Rattle.rk_model.specs.Histories.{places, free_cluster, vacant}
@@ -17,7 +17,7 @@ use Rattle.rk_parts.specs.declared.parts.GroupPart.{GroupPart}
 use Rattle.rk_parts.specs.Threads.{own_standing}
 use Rattle.rk_places.specs.Stores.{none_live, group_of, stored_at}
 use Rattle.rk_signal.specs.Barriers.{no_stored}
-use Rattle.rk_parts.specs.Joined.{listed, cluster_of, placed_in, lives_in, held, numbered, present_of, threads_of, barrier_of, barrier_group, barrier_held, barriers_of, partition_group, partition_held, partitions_of, period_group, period_held, periods_of, clusters_of, clusters_by, plain_of}
+use Rattle.rk_parts.specs.Joined.{listed, cluster_of, placed_in, lives_in, held, numbered, present_of, threads_of, semaphore_group, semaphore_held, semaphores_of, barrier_of, barrier_group, barrier_held, barriers_of, partition_group, partition_held, partitions_of, period_group, period_held, periods_of, clusters_of, clusters_by, plain_of}
 use Rattle.rk_parts.specs.Lent.{AreLaid, layouts, stored}
 use Rattle.rk_parts.specs.Noted.{no_part, part_at, standings_in, key_of, IsKeyed, AreNoted, bare}
 use Rattle.rk_parts.specs.Whole.{ticks_of, ticks_in, AreWhole}
@@ -158,7 +158,17 @@ listed_no : {X : Type 0} (none : X) (f : ℕ → X) (a n : ℕ) → ((i : ℕ) �
 listed_no none f a zero is = refl
 listed_no none f a (suc n) is = ap (λ x. x ∷ listed f (a + 1) n) (is a) ∙ ap (λ xs. none ∷ xs) (listed_no none f (a + 1) n is)
 
--- no barrier is held by vacant groups,
+-- no semaphore is held by vacant groups,
+no_semaphore_held : (i : ℕ) → semaphore_held vacant_groups i ≡ no_semaphore
+no_semaphore_held i = or_none no_semaphore (0 == group_of i) (placed 0) (or_none no_semaphore (1 == group_of i) (placed 1) (or_none no_semaphore (2 == group_of i) (placed 2) (or_none no_semaphore (3 == group_of i) (placed 3) refl))) where
+  placed : (number : ℕ) → stored_at no_semaphore (none_live no_semaphore number) i ≡ no_semaphore
+  placed number = nth_replicate no_semaphore 64 i
+
+semaphores_vacant : (groups : List GroupPart) → groups ≡ vacant_groups → semaphores_of groups ≡ replicate 64 no_semaphore
+unfolding semaphores_of
+semaphores_vacant groups made = ap (λ (gs : List GroupPart). listed (semaphore_held gs) 1 64) made ∙ listed_no no_semaphore (semaphore_held vacant_groups) 1 64 no_semaphore_held
+
+-- no barrier,
 no_barrier_held : (i : ℕ) → barrier_held vacant_groups i ≡ no_barrier
 no_barrier_held i = or_none no_barrier (0 == group_of i) (placed 0) (or_none no_barrier (1 == group_of i) (placed 1) (or_none no_barrier (2 == group_of i) (placed 2) (or_none no_barrier (3 == group_of i) (placed 3) refl))) where
   placed : (number : ℕ) → barrier_of (stored_at no_stored (none_live no_stored number) i) ≡ no_barrier
@@ -168,7 +178,7 @@ barriers_vacant : (groups : List GroupPart) → groups ≡ vacant_groups → bar
 unfolding barriers_of
 barriers_vacant groups made = ap (λ (gs : List GroupPart). listed (barrier_held gs) 1 64) made ∙ listed_no no_barrier (barrier_held vacant_groups) 1 64 no_barrier_held
 
--- and no partition
+-- no partition
 no_partition_held : (i : ℕ) → partition_held vacant_groups i ≡ no_partition
 no_partition_held i = or_none no_partition (0 == group_of i) (placed 0) (or_none no_partition (1 == group_of i) (placed 1) (or_none no_partition (2 == group_of i) (placed 2) (or_none no_partition (3 == group_of i) (placed 3) refl))) where
   placed : (number : ℕ) → stored_at no_partition (none_live no_partition number) i ≡ no_partition
@@ -208,10 +218,11 @@ plain_made s all made few =
     let clusters : clusters_of all.scenario.clusters all.clusters ≡ map free_cluster s.clusters = ap (λ (t : Scenario). clusters_of t.clusters all.clusters) made.scenario ∙ clusters_vacant s.clusters all.clusters vacant few in
     let present = present_made s all made in
     let threads = threads_vacant s.clusters all.clusters vacant in
+    let semaphores = semaphores_vacant all.groups made.groups in
     let barriers = barriers_vacant all.groups made.groups in
     let partitions = partitions_vacant all.groups made.groups in
     let periods = periods_vacant all.groups made.groups in
-    λ i. record { scenario = made.scenario i; present = present i; clusters = clusters i; threads = threads i; barriers = barriers i; partitions = partitions i; periods = periods i; table = made.names i }
+    λ i. record { scenario = made.scenario i; present = present i; clusters = clusters i; threads = threads i; semaphores = semaphores i; barriers = barriers i; partitions = partitions i; periods = periods i; table = made.names i }
 
 -- are whole,
 pub whole_made : (s : Scenario) (all : AllParts) → AreMade s all → AreWhole all
@@ -224,6 +235,7 @@ whole_made s all made =
       numbers = λ c low. number_vacant s.clusters all.clusters c vacant low;
       laid = subst (λ (t : Scenario). AreLaid t.clusters (layouts all.clusters)) (sym made.scenario) (laid s.clusters all.clusters (lie_vacant s.clusters all.clusters vacant));
       groups = ap (map barrier_group) made.groups;
+      semaphores = ap (map semaphore_group) made.groups;
       partitions = ap (map partition_group) made.groups;
       periods = ap (map period_group) made.groups;
       time = record {

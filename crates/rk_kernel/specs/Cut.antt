@@ -4,7 +4,7 @@ use Rattle.std.specs.List.{slice_index_or}
 use Rattle.rk_model.specs.declared.limits.TheConstants.{MOST_OBJECTS}
 use Rattle.rk_model.specs.declared.scenario.Target.{Target}
 use Rattle.rk_model.specs.declared.state.Thread.{Thread}
-use Rattle.rk_model.specs.State.{Plain, ClusterState, no_thread, no_barrier, no_partition, thread_at, cluster_at}
+use Rattle.rk_model.specs.State.{Plain, ClusterState, no_thread, no_semaphore, no_barrier, no_partition, no_period, thread_at, cluster_at}
 use Rattle.rk_model.specs.Histories.{free_cluster}
 use Rattle.rk_model.specs.Directives.Objects.{has_begun}
 use Rattle.rk_model.specs.Directives.Outcomes.{Outcome, answer_of, changed}
@@ -19,9 +19,9 @@ cut_thread c x = if has_begun x.life && (x.home == c) then x else no_thread
 abbrev pub cut_cluster : Plain → ℕ → ℕ → ClusterState
 cut_cluster k c d = if d == c then cluster_at k d else free_cluster (slice_index_or k.scenario.clusters d 0)
 
--- The state cut to one cluster: what that cluster's part has of it, and vacant elsewhere; barriers and partitions are in no part of a cluster.
+-- The state cut to one cluster: what that cluster's part has of it, and vacant elsewhere; semaphores, barriers, partitions and periods are in no part of a cluster.
 abbrev pub cut : Plain → ℕ → Plain
-cut k c = record k { clusters = listed (cut_cluster k c) 0 (length k.clusters); threads = map (cut_thread c) k.threads; barriers = replicate MOST_OBJECTS no_barrier; partitions = replicate MOST_OBJECTS no_partition }
+cut k c = record k { clusters = listed (cut_cluster k c) 0 (length k.clusters); threads = map (cut_thread c) k.threads; semaphores = replicate MOST_OBJECTS no_semaphore; barriers = replicate MOST_OBJECTS no_barrier; partitions = replicate MOST_OBJECTS no_partition; periods = replicate MOST_OBJECTS no_period }
 
 -- a thread lives in a cluster
 pub record LivesAt (k : Plain) (c t : ℕ) : Type 0 where

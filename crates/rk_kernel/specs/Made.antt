@@ -1,7 +1,7 @@
 -- Parts as they are made at opening.
 use Rattle.std.specs.Prelude.{ℕ, List, [], ◌∷◌, take}
 use Rattle.std.specs.List.{slice_index_or}
-use Rattle.rk_model.specs.State.{no_partition, no_period}
+use Rattle.rk_model.specs.State.{no_semaphore, no_partition, no_period}
 use Rattle.rk_model.specs.Text.Scenarios.{cpus_in}
 use Rattle.rk_cluster.specs.Clusters.{empty_cluster}
 use Rattle.rk_parts.specs.declared.parts.ClusterPart.{ClusterPart}
@@ -24,7 +24,7 @@ vacant_parts counts = vacant_in counts 0 ∷ vacant_in counts 1 ∷ vacant_in co
 
 -- the part of a group in which no object lives
 abbrev pub vacant_group : ℕ → GroupPart
-vacant_group number = record { present = 0; barriers = none_live no_stored number; partitions = none_live no_partition number; periods = none_live no_period number; wakes = [] }
+vacant_group number = record { present = 0; semaphores = none_live no_semaphore number; barriers = none_live no_stored number; partitions = none_live no_partition number; periods = none_live no_period number; wakes = [] }
 
 -- the parts of all groups, in which no object lives
 abbrev pub vacant_groups : List GroupPart

@@ -1,4 +1,4 @@
--- What holds of each state that a legal history leads to: of lines, runners and processors, of names, of waits, and of refusals.
+-- What holds of each state that a legal history leads to: of lines, runners and processors, of names, of waits and their chains, and of refusals.
 use Rattle.std.specs.Prelude.{ℕ, ◌+◌, ◌<◌, ◌≤◌, ◌≡◌, ◌↔◌, ◌⊎◌, List, [], ◌∷◌, ◌++◌, Bool, true, false, ◌&&◌, Option, Some, None, ◌==◌, length, if◌then◌else◌}
 use Rattle.rk_model.specs.declared.limits.TheConstants.{MOST_OBJECTS}
 use Rattle.rk_model.specs.declared.scenario.Scenario.{Scenario}
@@ -7,12 +7,13 @@ use Rattle.rk_model.specs.declared.state.Thread.{Thread}
 use Rattle.rk_model.specs.declared.entry.View.TheVariants.{Runs}
 use Rattle.rk_model.specs.Lists.{has, times}
 use Rattle.rk_model.specs.declared.ids.Class.{Class}
-use Rattle.rk_model.specs.declared.ids.Class.TheVariants.{Task, Barrier, Partition, Period}
+use Rattle.rk_model.specs.declared.ids.Class.TheVariants.{Task, Semaphore, Barrier, Partition, Period}
 use Rattle.rk_model.specs.Names.{indices, lives}
-use Rattle.rk_model.specs.State.{Plain, ClusterState, no_thread, no_barrier, no_partition, no_period, thread_at, put_thread, barrier_at, partition_at, period_at, op_at, cluster_at}
-use Rattle.rk_model.specs.Directives.Objects.{names_in, is_live}
+use Rattle.rk_model.specs.State.{Plain, ClusterState, no_thread, no_semaphore, no_barrier, no_partition, no_period, thread_at, put_thread, semaphore_at, barrier_at, partition_at, period_at, op_at, cluster_at}
+use Rattle.rk_model.specs.Directives.Objects.{has_begun, names_in, is_live}
 use Rattle.rk_model.specs.Directives.Outcomes.{finished}
-use Rattle.rk_model.specs.Directives.Waits.{Object, object_of_wait, is_for, arrivals_in}
+use Rattle.rk_model.specs.Directives.Waits.{Object, OfSemaphore, object_of_wait, is_for, arrivals_in}
+use Rattle.rk_model.specs.Scheduling.Chains.{chain, ends_by, waits_on}
 use Rattle.rk_model.specs.Scheduling.Timers.{times_armed}
 use Rattle.rk_model.specs.declared.state.Armer.TheVariants.{Thread as OfThread}
 use Rattle.rk_model.specs.Steps.{Act, act}
@@ -86,6 +87,10 @@ NamesAndObjectsAgree = AfterEach (λ k. (class : Class) → HasNames k class)
 abbrev pub NothingIsLeftOfDeletedTasks : Type 0
 NothingIsLeftOfDeletedTasks = AfterEach (λ k. (t : ℕ) → lives (names_in k Task) t ≡ false → thread_at k t ≡ no_thread)
 
+-- Where no semaphore has a name, there is none: nothing is left there of one that was deleted, neither an owner nor a queue.
+abbrev pub NothingIsLeftOfDeletedSemaphores : Type 0
+NothingIsLeftOfDeletedSemaphores = AfterEach (λ k. (i : ℕ) → lives (names_in k Semaphore) i ≡ false → semaphore_at k i ≡ no_semaphore)
+
 -- Where no barrier has a name, there is none: nothing is left there of one that was deleted.
 abbrev pub NothingIsLeftOfDeletedBarriers : Type 0
 NothingIsLeftOfDeletedBarriers = AfterEach (λ k. (i : ℕ) → lives (names_in k Barrier) i ≡ false → barrier_at k i ≡ no_barrier)
@@ -106,7 +111,7 @@ timers_of (cluster ∷ clusters) t = times_armed (OfThread t) cluster.timers + t
 -- The waits of a thread agree with queues and timers.
 pub record HasTies (k : Plain) (t : ℕ) : Type 0 where
   -- it stands in the queue of an object, once, exactly where it waits for that object, and in no other queue;
-  pub queued : (object : Object) → times t (arrivals_in k.barriers object) ≡ (if is_for (object_of_wait (thread_at k t).wait) object then 1 else 0)
+  pub queued : (object : Object) → times t (arrivals_in k.barriers k.semaphores object) ≡ (if is_for (object_of_wait (thread_at k t).wait) object then 1 else 0)
   -- it has at most one timer, and none where it doesn't wait, or waits for a period;
   pub timed : timers_of k.clusters t ≤ (if may_time_out (thread_at k t).wait then 1 else 0)
   -- and exactly one where it waits for a time
@@ -115,6 +120,28 @@ pub record HasTies (k : Plain) (t : ℕ) : Type 0 where
 -- It is so of each thread after each legal history.
 abbrev pub WaitsAndQueuesAgree : Type 0
 WaitsAndQueuesAgree = AfterEach (λ k. (t : ℕ) → HasTies k t)
+
+-- A thread that owns a semaphore:
+pub record Owns (k : Plain) (t i : ℕ) : Type 0 where
+  -- it lives,
+  pub lives : has_begun (thread_at k t).life ≡ true
+  -- and doesn't stand in the queue of what it owns
+  pub apart : times t (arrivals_in k.barriers k.semaphores (OfSemaphore i)) ≡ 0
+
+-- Who owns a semaphore lives, and doesn't wait for it, after each legal history.
+abbrev pub OwnersLiveAndNoneWaitsForItsOwn : Type 0
+OwnersLiveAndNoneWaitsForItsOwn = AfterEach (λ k. (t i : ℕ) → (semaphore_at k i).owner ≡ Some t → Owns k t i)
+
+-- The chain of a thread ends, in which each thread waits for a semaphore that the next one owns:
+pub record HasAnEnd (k : Plain) (t : ℕ) : Type 0 where
+  -- it has at most 64 threads, and the last of them waits for no semaphore that a thread owns,
+  pub ends : ends_by (waits_on k) MOST_OBJECTS t ≡ true
+  -- and it comes back to none of them: each thread stands in it at most once
+  pub once : (u : ℕ) → times u (chain (waits_on k) MOST_OBJECTS t) ≤ 1
+
+-- Every chain of threads, each of which waits for a semaphore that the next one owns, ends, after each legal history: it has at most 64 threads, and comes back to none.
+abbrev pub EveryChainOfWaitsEnds : Type 0
+EveryChainOfWaitsEnds = AfterEach (λ k. (t : ℕ) → HasAnEnd k t)
 
 -- The history in which always the lowest-numbered processor that has a directive acts ends with End, or has as many entries as it may have.
 abbrev pub LowestGoesOn : Type 0

@@ -88,9 +88,10 @@ fn reply_at_timer(wait: Option<Wait>) -> Reply
 {
     match wait {
         Some(Wait::ForTime) | None => bare(Status::Successful),
-        Some(Wait::ForEvents(_, _)) | Some(Wait::AtBarrier(_)) | Some(Wait::ForPeriod(_)) => {
-            bare(Status::Timeout)
-        }
+        Some(Wait::ForEvents(_, _))
+        | Some(Wait::AtBarrier(_))
+        | Some(Wait::ForPeriod(_))
+        | Some(Wait::ForSemaphore(_)) => bare(Status::Timeout),
     }
 }
 

@@ -3,7 +3,7 @@
 //! Each speaks of the state after any legal history of a scenario, but for the last two: one speaks
 //! of the planned history, and one of every state.
 
-ghost use Rattle.rk_kernel.specs.SchedulingLaws.{LinesHoldTheirOwn, ProcessorsHaveTheRunners, RunnersAreTheMostUrgent, NoneRunsTwice, NamesAndObjectsAgree, NothingIsLeftOfDeletedTasks, NothingIsLeftOfDeletedBarriers, NothingIsLeftOfDeletedPartitions, NothingIsLeftOfDeletedPeriods, StatisticsAreThoseOfTheHistory, WaitsAndQueuesAgree, NoneActsAtWork, RefusalsChangeTheCallerAlone, LowestGoesOn};
+ghost use Rattle.rk_kernel.specs.SchedulingLaws.{LinesHoldTheirOwn, ProcessorsHaveTheRunners, RunnersAreTheMostUrgent, NoneRunsTwice, NamesAndObjectsAgree, NothingIsLeftOfDeletedTasks, NothingIsLeftOfDeletedSemaphores, NothingIsLeftOfDeletedBarriers, NothingIsLeftOfDeletedPartitions, NothingIsLeftOfDeletedPeriods, StatisticsAreThoseOfTheHistory, WaitsAndQueuesAgree, OwnersLiveAndNoneWaitsForItsOwn, EveryChainOfWaitsEnds, NoneActsAtWork, RefusalsChangeTheCallerAlone, LowestGoesOn};
 ghost use Rattle.rk_kernel.specs.Cut.{SuspendNeedsItsClusterAlone};
 
 /// The ready queue of each cluster holds exactly the eligible threads of that home, each once.
@@ -38,6 +38,12 @@ pub fn nothing_is_left_of_deleted_tasks()
     ensures { NothingIsLeftOfDeletedTasks }
 {}
 
+/// Where no semaphore has a name, there is none: nothing is left there of one that was deleted, neither
+/// an owner nor a queue.
+pub fn nothing_is_left_of_deleted_semaphores()
+    ensures { NothingIsLeftOfDeletedSemaphores }
+{}
+
 /// Where no barrier has a name, there is none: nothing is left there of one that was deleted.
 pub fn nothing_is_left_of_deleted_barriers()
     ensures { NothingIsLeftOfDeletedBarriers }
@@ -58,6 +64,17 @@ pub fn nothing_is_left_of_deleted_periods()
 /// it waits for a time.
 pub fn waits_and_queues_agree()
     ensures { WaitsAndQueuesAgree }
+{}
+
+/// Who owns a semaphore lives, and doesn't wait for it.
+pub fn owners_live_and_none_waits_for_its_own()
+    ensures { OwnersLiveAndNoneWaitsForItsOwn }
+{}
+
+/// Every chain of threads, each of which waits for a semaphore that the next one owns, ends: it has at
+/// most 64 threads, and comes back to none.
+pub fn every_chain_of_waits_ends()
+    ensures { EveryChainOfWaitsEnds }
 {}
 
 /// The statistics that a period has are those of its history: of the jobs that ended since it was

@@ -26,6 +26,7 @@ use rk_parts::settle::settle_parts;
 use rk_parts::table::Table;
 use rk_parts::threads::Threads;
 use rk_period::PeriodStore;
+use rk_sem::SemStore;
 use rk_signal::BarrierStore;
 use rk_wheel::Wheel;
 use std::alloc::Global;
@@ -115,6 +116,7 @@ fn make_group(alloc: Global, number: u8) -> Result<GroupPart, NoMemory>
 {
     Ok(GroupPart {
         present: 0,
+        semaphores: SemStore::new(alloc, number)?,
         barriers: BarrierStore::new(alloc, number)?,
         partitions: PartitionStore::new(alloc, number)?,
         periods: PeriodStore::new(alloc, number)?,

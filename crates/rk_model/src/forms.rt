@@ -3,6 +3,8 @@ ghost use Rattle.rk_model.specs.Text.Forms.{word_of, form_from, form_in};
 
 use crate::numbers::Name;
 use crate::scenario::{Op, Target, Wish};
+use crate::semaphore::{Protocol, SemKind, SemSpec};
+use crate::waiting::Order;
 
 /// A line of each form. What its operands are is of no account.
 pub const FORMS: &[Op] = &[
@@ -18,6 +20,22 @@ pub const FORMS: &[Op] = &[
     Op::TaskWakeAfter(0),
     Op::EventSend(Target::Own, 0),
     Op::EventReceive(0, false, Wish::NoWait, 0),
+    Op::SemCreate(
+        Name { bits: 0 },
+        SemSpec {
+            count: 0,
+            kind: SemKind::Counting,
+            order: Order::Fifo,
+            protocol: Protocol::NoProtocol,
+            ceiling: 0,
+        },
+        0,
+    ),
+    Op::SemIdent(Name { bits: 0 }, 0),
+    Op::SemObtain(Target::Own, Wish::NoWait),
+    Op::SemRelease(Target::Own),
+    Op::SemFlush(Target::Own),
+    Op::SemDelete(Target::Own),
     Op::BarrierCreate(Name { bits: 0 }, false, 0, 0),
     Op::BarrierIdent(Name { bits: 0 }, 0),
     Op::BarrierWait(Target::Own, 0),
@@ -53,6 +71,12 @@ impl Op {
             Op::TaskWakeAfter(_) => "task.wake_after",
             Op::EventSend(_, _) => "event.send",
             Op::EventReceive(_, _, _, _) => "event.receive",
+            Op::SemCreate(_, _, _) => "sem.create",
+            Op::SemIdent(_, _) => "sem.ident",
+            Op::SemObtain(_, _) => "sem.obtain",
+            Op::SemRelease(_) => "sem.release",
+            Op::SemFlush(_) => "sem.flush",
+            Op::SemDelete(_) => "sem.delete",
             Op::BarrierCreate(_, _, _, _) => "barrier.create",
             Op::BarrierIdent(_, _) => "barrier.ident",
             Op::BarrierWait(_, _) => "barrier.wait",

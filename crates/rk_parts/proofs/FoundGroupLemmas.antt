@@ -8,7 +8,7 @@ use Rattle.rk_model.specs.Lists.{has, nth, with_nth}
 use Rattle.rk_model.proofs.BooleanLemmas.{same_number}
 use Rattle.rk_places.specs.Stores.{group_of}
 use Rattle.rk_parts.specs.declared.parts.GroupPart.{GroupPart}
-use Rattle.rk_parts.specs.Joined.{held_by, listed, barrier_held, barriers_of, partition_held, partitions_of, period_held, periods_of}
+use Rattle.rk_parts.specs.Joined.{held_by, listed, semaphore_held, semaphores_of, barrier_held, barriers_of, partition_held, partitions_of, period_held, periods_of}
 use Rattle.rk_parts.specs.Groups.{group_at, first_of, holds, no_group, group_frame, group_frames}
 use Rattle.rk_parts.proofs.HeldLemmas.{found_here, found_later, found_nowhere}
 use Rattle.rk_parts.proofs.ListedLemmas.{get_or-listed, same_listed, set-listed}
@@ -92,7 +92,11 @@ holds_one number there none groups at i next x same found put others u = by (u =
 pub frames_same : (groups : List GroupPart) (at : ℕ) (group : GroupPart) → group_frame group ≡ group_frame (group_at groups at) → group_frames (set groups at group) ≡ group_frames groups
 frames_same groups at group same = map-set_same group_frame groups at group no_group same
 
--- where the barriers that groups hold are the same, so are those of the state, and so it is with partitions and periods
+-- where the semaphores that groups hold are the same, so are those of the state, and so it is with barriers, partitions and periods
+pub semaphores_same : (old new : List GroupPart) → ((u : ℕ) → semaphore_held new u ≡ semaphore_held old u) → semaphores_of new ≡ semaphores_of old
+unfolding semaphores_of
+semaphores_same old new same = same_listed (semaphore_held new) (semaphore_held old) 1 64 same
+
 pub barriers_same : (old new : List GroupPart) → ((u : ℕ) → barrier_held new u ≡ barrier_held old u) → barriers_of new ≡ barriers_of old
 unfolding barriers_of
 barriers_same old new same = same_listed (barrier_held new) (barrier_held old) 1 64 same

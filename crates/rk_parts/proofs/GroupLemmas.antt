@@ -13,9 +13,9 @@ use Rattle.rk_model.specs.declared.waiting.Caller.{Caller}
 use Rattle.rk_model.specs.declared.waiting.Wake.{Wake}
 use Rattle.rk_model.specs.Lists.{has, nth, with_nth}
 use Rattle.rk_model.specs.Names.{Table}
-use Rattle.rk_model.specs.State.{BarrierState, no_barrier, no_partition, no_period, put_barrier}
+use Rattle.rk_model.specs.State.{BarrierState, no_semaphore, no_barrier, no_partition, no_period, put_barrier}
 use Rattle.rk_model.specs.Directives.Barriers.{is_full}
-use Rattle.rk_model.specs.Directives.Waits.{leave, object_of_wait, without, without_arrival}
+use Rattle.rk_model.specs.Directives.Waits.{leave, object_of_wait, without, without_arrival, without_waiter_in}
 use Rattle.rk_model.proofs.IndexLemmas.{nth-with_other, nth-with_same}
 use Rattle.rk_queue.proofs.QueueLemmas.{threads-append, length-threads}
 use Rattle.rk_model.specs.declared.waiting.Waiter.{Waiter}
@@ -24,9 +24,9 @@ use Rattle.rk_places.specs.Stores.{Store, IsOfGroup, IsStoreOf, stored_at, put_a
 use Rattle.rk_signal.specs.Barriers.{Stored, no_stored, emptied, with_waiter, without_waiter, is_filled, waited, woken_by_wait, reply_to_wait}
 use Rattle.rk_parts.specs.declared.parts.ClusterPart.{ClusterPart}
 use Rattle.rk_parts.specs.declared.parts.GroupPart.{GroupPart}
-use Rattle.rk_parts.specs.Joined.{barrier_of, barrier_group, barrier_in, barrier_held, barriers_of, barrier_lent, partition_group, partition_in, period_group, period_in, joined, thread_lent}
+use Rattle.rk_parts.specs.Joined.{semaphore_group, semaphore_in, semaphores_of, barrier_of, barrier_group, barrier_in, barrier_held, barriers_of, barrier_lent, partition_group, partition_in, period_group, period_in, joined, thread_lent}
 use Rattle.rk_parts.specs.Groups.{no_group, group_at, group_in, is_lent, wakes_in, wakes_at, PutsBarrier, Leaves, ended_waits, waited_at, woken_at, reply_at, left_at}
-use Rattle.rk_parts.proofs.FoundGroupLemmas.{nth-listed, put-listed, found_number, found_inside, found_holds, nowhere_holds, never_held, holds_here, holds_there, holds_one, partitions_same, periods_same, frames_same}
+use Rattle.rk_parts.proofs.FoundGroupLemmas.{nth-listed, put-listed, found_number, found_inside, found_holds, nowhere_holds, never_held, holds_here, holds_there, holds_one, semaphores_same, partitions_same, periods_same, frames_same}
 use Rattle.rk_parts.proofs.ListedLemmas.{get_or-any, length-listed}
 
 -- The barrier of an index in the state that groups stand for.
@@ -102,6 +102,7 @@ puts_barrier groups at i x wakes low high found store =
       barriers = barriers_put groups (set groups at next) i (barrier_of x) low (holds_one barrier_group barrier_in no_barrier groups at i next (barrier_of x) refl found put (λ u other. ap barrier_of (nth-with_other no_stored x group.barriers.places i u other)));
       partitions = partitions_same groups (set groups at next) (λ u. holds_there partition_group partition_in no_partition groups at u next refl refl);
       periods = periods_same groups (set groups at next) (λ u. holds_there period_group period_in no_period groups at u next refl refl);
+      semaphores = semaphores_same groups (set groups at next) (λ u. holds_there semaphore_group semaphore_in no_semaphore groups at u next refl refl);
       kept = frames_same groups at next refl;
     }
 
@@ -148,7 +149,7 @@ left_is : (t : ℕ) (x : Stored) → barrier_of (without_waiter t x) ≡ left_by
 left_is t x = ap (λ ts. (let next : BarrierState = record (barrier_of x) { arrivals = ts } in next)) (threads-without t x.queue.arrivals)
 
 -- who doesn't wait there leaves nothing behind
-without_absent : (t : ℕ) (ts : List ℕ) → has ts t ≡ false → without t ts ≡ ts
+pub without_absent : (t : ℕ) (ts : List ℕ) → has ts t ≡ false → without t ts ≡ ts
 without_absent t [] absent = refl
 without_absent t (u ∷ us) absent = grind (arith, nat_tests, absent, without_absent t us)
 
@@ -167,6 +168,7 @@ leaves_nothing groups i t absent =
     let still : left_by_thread t (barrier_lent groups i) ≡ barrier_lent groups i = ap (λ ts. (let next : BarrierState = record (barrier_lent groups i) { arrivals = ts } in next)) (without_absent t (barrier_lent groups i).arrivals absent) in
     record {
       barriers = sym (ap (with_nth (barriers_of groups) i) still ∙ with_nth-still no_barrier (barriers_of groups) i);
+      semaphores = refl;
       partitions = refl;
       periods = refl;
       kept = refl;
@@ -202,6 +204,7 @@ leaves_found groups at i t low high found store = by (waits_in (stored_at no_sto
       let left : barrier_of (without_waiter t x) ≡ left_by_thread t (barrier_lent groups i) = left_is t x ∙ ap (left_by_thread t) (sym is) in
       record {
         barriers = puts.barriers ∙ ap (with_nth (barriers_of groups) i) left;
+        semaphores = puts.semaphores;
         partitions = puts.partitions;
         periods = puts.periods;
         kept = puts.kept;
@@ -235,10 +238,11 @@ as_left groups at i t group barriers found is =
 
 -- a barrier that is put in its group is put in the state,
 pub barrier_joined : (s : Scenario) (table : Table) (parts : List ClusterPart) (old new : List GroupPart) (i : ℕ) (b : BarrierState) → PutsBarrier old i b new → joined s table parts new ≡ put_barrier (joined s table parts old) i b
-barrier_joined s table parts old new i b puts = λ k. record (joined s table parts old) { barriers = puts.barriers k; partitions = puts.partitions k; periods = puts.periods k }
+barrier_joined s table parts old new i b puts = λ k. record (joined s table parts old) { semaphores = puts.semaphores k; barriers = puts.barriers k; partitions = puts.partitions k; periods = puts.periods k }
 
 -- and a thread that leaves the queue of what it waits for leaves it in the state.
 pub left_joined : (s : Scenario) (table : Table) (parts : List ClusterPart) (old new : List GroupPart) (t : ℕ) (wait : Option Wait) → wait ≡ (thread_lent parts t).wait → Leaves old t wait new → joined s table parts new ≡ leave (joined s table parts old) t
 left_joined s table parts old new t wait waits leaves =
     let is : barriers_of new ≡ without_arrival (barriers_of old) t (object_of_wait (thread_lent parts t).wait) = leaves.barriers ∙ ap (λ (w : Option Wait). without_arrival (barriers_of old) t (object_of_wait w)) waits in
-    λ k. record (joined s table parts old) { barriers = is k; partitions = leaves.partitions k; periods = leaves.periods k }
+    let are : semaphores_of new ≡ without_waiter_in (semaphores_of old) t (object_of_wait (thread_lent parts t).wait) = leaves.semaphores ∙ ap (λ (w : Option Wait). without_waiter_in (semaphores_of old) t (object_of_wait w)) waits in
+    λ k. record (joined s table parts old) { semaphores = are k; barriers = is k; partitions = leaves.partitions k; periods = leaves.periods k }

@@ -9,6 +9,7 @@ pub mod GroupStoreLemmas
 pub mod GroupLemmas
 pub mod PartitionGroupLemmas
 pub mod PeriodGroupLemmas
+pub mod SemaphoreGroupLemmas
 pub mod ReplaceLemmas
 pub mod LentTimerLemmas
 pub mod StandingLemmas

@@ -4,14 +4,14 @@ use Rattle.std.proofs.lemmas.Bool.{false≢true}
 use Rattle.rk_model.specs.declared.scenario.Scenario.{Scenario}
 use Rattle.rk_model.specs.Lists.{with_nth}
 use Rattle.rk_model.specs.Names.{Table}
-use Rattle.rk_model.specs.State.{PartitionState, no_barrier, no_partition, no_period, put_partition}
+use Rattle.rk_model.specs.State.{PartitionState, no_semaphore, no_barrier, no_partition, no_period, put_partition}
 use Rattle.rk_model.proofs.IndexLemmas.{nth-with_other, nth-with_same}
 use Rattle.rk_places.specs.Stores.{Store, IsOfGroup, IsStoreOf, put_at}
 use Rattle.rk_parts.specs.declared.parts.ClusterPart.{ClusterPart}
 use Rattle.rk_parts.specs.declared.parts.GroupPart.{GroupPart}
-use Rattle.rk_parts.specs.Joined.{barrier_group, barrier_in, partition_group, partition_in, partition_held, partitions_of, partition_lent, period_group, period_in, joined}
+use Rattle.rk_parts.specs.Joined.{semaphore_group, semaphore_in, barrier_group, barrier_in, partition_group, partition_in, partition_held, partitions_of, partition_lent, period_group, period_in, joined}
 use Rattle.rk_parts.specs.Groups.{no_group, group_at, partitions_in, holds_partitions, PutsPartition}
-use Rattle.rk_parts.proofs.FoundGroupLemmas.{nth-listed, put-listed, found_number, found_inside, found_holds, nowhere_holds, never_held, holds_there, holds_one, barriers_same, periods_same, frames_same}
+use Rattle.rk_parts.proofs.FoundGroupLemmas.{nth-listed, put-listed, found_number, found_inside, found_holds, nowhere_holds, never_held, holds_there, holds_one, semaphores_same, barriers_same, periods_same, frames_same}
 use Rattle.rk_parts.proofs.ListedLemmas.{get_or-any, length-listed}
 
 -- The partition of an index in the state that groups stand for.
@@ -72,6 +72,7 @@ puts_partition groups at i x low high found store =
       partitions = partitions_put groups (set groups at next) i x low (holds_one partition_group partition_in no_partition groups at i next x refl found put (λ u other. nth-with_other no_partition x group.partitions.places i u other));
       barriers = barriers_same groups (set groups at next) (λ u. holds_there barrier_group barrier_in no_barrier groups at u next refl refl);
       periods = periods_same groups (set groups at next) (λ u. holds_there period_group period_in no_period groups at u next refl refl);
+      semaphores = semaphores_same groups (set groups at next) (λ u. holds_there semaphore_group semaphore_in no_semaphore groups at u next refl refl);
       kept = frames_same groups at next refl;
     }
 
@@ -91,4 +92,4 @@ partition_put groups at i group store x p low high found is_store is stands =
 
 -- a partition that is put in its group is put in the state
 pub partition_joined : (s : Scenario) (table : Table) (parts : List ClusterPart) (old new : List GroupPart) (i : ℕ) (p : PartitionState) → PutsPartition old i p new → joined s table parts new ≡ put_partition (joined s table parts old) i p
-partition_joined s table parts old new i p puts = λ k. record (joined s table parts old) { barriers = puts.barriers k; partitions = puts.partitions k; periods = puts.periods k }
+partition_joined s table parts old new i p puts = λ k. record (joined s table parts old) { semaphores = puts.semaphores k; barriers = puts.barriers k; partitions = puts.partitions k; periods = puts.periods k }

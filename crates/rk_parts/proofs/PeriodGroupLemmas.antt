@@ -4,13 +4,13 @@ use Rattle.std.proofs.lemmas.Bool.{false≢true}
 use Rattle.rk_model.specs.declared.scenario.Scenario.{Scenario}
 use Rattle.rk_model.specs.Lists.{nth, with_nth}
 use Rattle.rk_model.specs.Names.{Table}
-use Rattle.rk_model.specs.State.{PeriodState, no_barrier, no_partition, no_period, put_period}
+use Rattle.rk_model.specs.State.{PeriodState, no_semaphore, no_barrier, no_partition, no_period, put_period}
 use Rattle.rk_places.specs.Stores.{Store, IsOfGroup, IsStoreOf, put_at}
 use Rattle.rk_parts.specs.declared.parts.ClusterPart.{ClusterPart}
 use Rattle.rk_parts.specs.declared.parts.GroupPart.{GroupPart}
-use Rattle.rk_parts.specs.Joined.{barrier_group, barrier_in, partition_group, partition_in, period_group, period_in, period_held, periods_of, period_lent, joined}
+use Rattle.rk_parts.specs.Joined.{semaphore_group, semaphore_in, barrier_group, barrier_in, partition_group, partition_in, period_group, period_in, period_held, periods_of, period_lent, joined}
 use Rattle.rk_parts.specs.Groups.{group_at, periods_in, holds_periods, PutsPeriod}
-use Rattle.rk_parts.proofs.FoundGroupLemmas.{nth-listed, put-listed, nowhere_holds, never_held, holds_there, barriers_same, partitions_same, frames_same}
+use Rattle.rk_parts.proofs.FoundGroupLemmas.{nth-listed, put-listed, nowhere_holds, never_held, holds_there, semaphores_same, barriers_same, partitions_same, frames_same}
 use Rattle.rk_model.specs.Directives.Tasks.{has_created}
 use Rattle.rk_parts.proofs.ListedLemmas.{length-listed}
 use Rattle.rk_parts.proofs.GroupStoreLemmas.{found_group, found_index, found_stands, found_put}
@@ -60,6 +60,7 @@ puts_period groups at i x low high found store =
       periods = periods_put groups (set groups at next) i x low (found_put no_period (λ (g : GroupPart). g.periods) groups at i next x low high found store refl);
       barriers = barriers_same groups (set groups at next) (λ u. holds_there barrier_group barrier_in no_barrier groups at u next refl refl);
       partitions = partitions_same groups (set groups at next) (λ u. holds_there partition_group partition_in no_partition groups at u next refl refl);
+      semaphores = semaphores_same groups (set groups at next) (λ u. holds_there semaphore_group semaphore_in no_semaphore groups at u next refl refl);
       kept = frames_same groups at next refl;
     }
 
@@ -77,7 +78,7 @@ period_put groups at i group store x p low high found is_store is stands =
 
 -- a period that is put in its group is put in the state
 pub period_joined : (s : Scenario) (table : Table) (parts : List ClusterPart) (old new : List GroupPart) (i : ℕ) (p : PeriodState) → PutsPeriod old i p new → joined s table parts new ≡ put_period (joined s table parts old) i p
-period_joined s table parts old new i p puts = λ k. record (joined s table parts old) { barriers = puts.barriers k; partitions = puts.partitions k; periods = puts.periods k }
+period_joined s table parts old new i p puts = λ k. record (joined s table parts old) { semaphores = puts.semaphores k; barriers = puts.barriers k; partitions = puts.partitions k; periods = puts.periods k }
 
 -- ---- who created one
 

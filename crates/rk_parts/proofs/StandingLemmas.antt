@@ -6,7 +6,7 @@ use Rattle.std.proofs.lemmas.List.{get_or_past, get_or-map, ext_get_or, length-m
 use Rattle.rk_model.specs.declared.settling.Standing.{Standing}
 use Rattle.rk_model.specs.declared.state.Thread.{Thread}
 use Rattle.rk_model.specs.declared.state.Wait.{Wait}
-use Rattle.rk_model.specs.declared.state.Wait.TheVariants.{ForTime, ForEvents, AtBarrier, ForPeriod}
+use Rattle.rk_model.specs.declared.state.Wait.TheVariants.{ForTime, ForEvents, AtBarrier, ForPeriod, ForSemaphore}
 use Rattle.rk_model.specs.Lists.{nth}
 use Rattle.rk_model.specs.State.{Plain, no_thread, thread_at}
 use Rattle.rk_model.specs.Scheduling.Priorities.{is_no_wait, spins_in, is_eligible, prio, or_least_urgent, home_prio, urgency, standing, standings_from, standings, no_standing, nth_standing}
@@ -26,6 +26,7 @@ none_spins k (Some ForTime) = refl
 none_spins k (Some (ForEvents set all)) = refl
 none_spins k (Some (AtBarrier i)) = refl
 none_spins k (Some (ForPeriod i)) = refl
+none_spins k (Some (ForSemaphore i)) = refl
 
 eligible_own : (k : Plain) (t : ℕ) → is_eligible k t ≡ is_ready (thread_at k t)
 unfolding is_eligible

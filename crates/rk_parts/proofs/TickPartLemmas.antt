@@ -6,13 +6,13 @@ use Rattle.rk_model.specs.declared.scenario.Scenario.{Scenario}
 use Rattle.rk_parts.specs.declared.parts.ClusterPart.{ClusterPart}
 use Rattle.rk_parts.specs.declared.parts.GroupPart.{GroupPart}
 use Rattle.rk_parts.specs.declared.parts.AllParts.{AllParts}
-use Rattle.rk_model.specs.State.{Plain, no_barrier, no_partition, no_period}
-use Rattle.rk_parts.specs.Joined.{barrier_group, barrier_in, barriers_of, partition_group, partition_in, partitions_of, period_group, period_in, periods_of, held_by, cluster_of, placed_in, lives_in, held, numbered, present_of, threads_of, clusters_of, clusters_by, plain_of}
+use Rattle.rk_model.specs.State.{Plain, no_semaphore, no_barrier, no_partition, no_period}
+use Rattle.rk_parts.specs.Joined.{semaphore_group, semaphore_in, semaphores_of, barrier_group, barrier_in, barriers_of, partition_group, partition_in, partitions_of, period_group, period_in, periods_of, held_by, cluster_of, placed_in, lives_in, held, numbered, present_of, threads_of, clusters_of, clusters_by, plain_of}
 use Rattle.rk_parts.specs.Lent.{AreLaid, Layout, layout, layouts, stored}
 use Rattle.rk_parts.specs.Noted.{part_at, standings_in, key_of, IsKeyed, AreNoted}
 use Rattle.rk_parts.specs.Whole.{AreWhole, AreFour, ticks_of, ticks_in, at_tick, group_at_tick}
 use Rattle.rk_places.specs.Stores.{group_of}
-use Rattle.rk_parts.proofs.FoundGroupLemmas.{barriers_same, partitions_same, periods_same}
+use Rattle.rk_parts.proofs.FoundGroupLemmas.{semaphores_same, barriers_same, partitions_same, periods_same}
 use Rattle.rk_parts.proofs.ListedLemmas.{same_listed}
 use Rattle.rk_parts.proofs.PutLemmas.{Ranked, keys_in}
 
@@ -73,6 +73,9 @@ four_tick number n old new same ticked four = ap (map number) ticked ∙ by old 
   by [] = refl
   by (g ∷ gs) = rw (same g) (ap (λ ns. number g ∷ ns) (by gs))
 
+semaphores_tick : (n : ℕ) (groups : List GroupPart) → semaphores_of (map (group_at_tick n) groups) ≡ semaphores_of groups
+semaphores_tick n groups = semaphores_same groups (map (group_at_tick n) groups) (held_by_groups semaphore_group semaphore_in no_semaphore n (λ g. refl) (λ g i. refl) groups)
+
 barriers_tick : (n : ℕ) (groups : List GroupPart) → barriers_of (map (group_at_tick n) groups) ≡ barriers_of groups
 barriers_tick n groups = barriers_same groups (map (group_at_tick n) groups) (held_by_groups barrier_group barrier_in no_barrier n (λ g. refl) (λ g i. refl) groups)
 
@@ -89,10 +92,11 @@ state_tick n old new whole clusters groups scenario names =
     let cs : clusters_of new.scenario.clusters new.clusters ≡ clusters_of old.scenario.clusters old.clusters =
     ap (λ (s : Scenario). clusters_of s.clusters new.clusters) scenario ∙ ap (λ (ps : List ClusterPart). clusters_of old.scenario.clusters ps) clusters ∙ clusters_tick n old.scenario.clusters old.clusters in
     let ts : threads_of new.clusters ≡ threads_of old.clusters = ap (λ (ps : List ClusterPart). threads_of ps) clusters ∙ threads_tick n old.clusters in
+    let ss : semaphores_of new.groups ≡ semaphores_of old.groups = ap (λ (gs : List GroupPart). semaphores_of gs) groups ∙ semaphores_tick n old.groups in
     let bs : barriers_of new.groups ≡ barriers_of old.groups = ap (λ (gs : List GroupPart). barriers_of gs) groups ∙ barriers_tick n old.groups in
     let qs : partitions_of new.groups ≡ partitions_of old.groups = ap (λ (gs : List GroupPart). partitions_of gs) groups ∙ partitions_tick n old.groups in
     let es : periods_of new.groups ≡ periods_of old.groups = ap (λ (gs : List GroupPart). periods_of gs) groups ∙ periods_tick n old.groups in
-    λ i. record { scenario = scenario i; present = tick i; clusters = cs i; threads = ts i; barriers = bs i; partitions = qs i; periods = es i; table = names i }
+    λ i. record { scenario = scenario i; present = tick i; clusters = cs i; threads = ts i; semaphores = ss i; barriers = bs i; partitions = qs i; periods = es i; table = names i }
 
 -- are whole
 pub whole_tick : (n : ℕ) (old new : AllParts) → AreWhole old → new.clusters ≡ map (at_tick n) old.clusters → new.groups ≡ map (group_at_tick n) old.groups → new.table.present ≡ n → new.scenario ≡ old.scenario → AreWhole new
@@ -104,6 +108,7 @@ whole_tick n old new whole clusters groups table scenario =
       numbers = λ c h. ap (λ (ps : List ClusterPart). (part_at ps c).lined.number) clusters ∙ tick_at (λ (p : ClusterPart). p.lined.number) n old.clusters c (λ p. refl) ∙ whole.numbers c h;
       laid = subst (λ (s : Scenario). AreLaid s.clusters (layouts new.clusters)) (sym scenario) (subst (AreLaid old.scenario.clusters) (sym (ap (λ (ps : List ClusterPart). layouts ps) clusters ∙ layouts_tick n old.clusters)) whole.laid);
       groups = four_tick barrier_group n old.groups new.groups (λ g. refl) groups whole.groups;
+      semaphores = four_tick semaphore_group n old.groups new.groups (λ g. refl) groups whole.semaphores;
       partitions = four_tick partition_group n old.groups new.groups (λ g. refl) groups whole.partitions;
       periods = four_tick period_group n old.groups new.groups (λ g. refl) groups whole.periods;
       time = record {

@@ -6,10 +6,10 @@ use Rattle.rk_model.specs.Scheduling.Settling.{settle}
 use Rattle.rk_parts.specs.declared.parts.ClusterPart.{ClusterPart}
 use Rattle.rk_parts.specs.declared.parts.GroupPart.{GroupPart}
 use Rattle.rk_parts.specs.declared.parts.AllParts.{AllParts}
-use Rattle.rk_parts.specs.Joined.{barrier_group, partition_group, period_group, joined, present_of, plain_of}
+use Rattle.rk_parts.specs.Joined.{semaphore_group, barrier_group, partition_group, period_group, joined, present_of, plain_of}
 use Rattle.rk_parts.specs.Lent.{number_in, AreLaid, layouts, Stored, stored_in, stored}
 use Rattle.rk_parts.specs.Noted.{part_at, AreNoted, LinesHold, settled_part, bare}
-use Rattle.rk_parts.specs.Groups.{GroupFrame, group_frame, group_frames, holds_partitions, holds_periods, is_lent}
+use Rattle.rk_parts.specs.Groups.{GroupFrame, group_frame, group_frames, holds_semaphores, holds_partitions, holds_periods, is_lent}
 use Rattle.rk_parts.specs.Whole.{ticks_of, ticks_in, AreFour, AreWhole}
 use Rattle.rk_parts.proofs.FoundGroupLemmas.{four_hold}
 use Rattle.rk_parts.proofs.LayoutLemmas.{lie}
@@ -26,6 +26,9 @@ lent_whole all c whole few known = lent_all all.scenario.clusters all.clusters c
 -- each index is that of a lent group
 pub all_groups_lent : (all : AllParts) (i : ℕ) → AreWhole all → 1 ≤ i → i ≤ 64 → is_lent all.groups i ≡ true
 all_groups_lent all i whole low high = four_hold barrier_group all.groups i whole.groups
+
+pub all_semaphores_lent : (all : AllParts) (i : ℕ) → AreWhole all → 1 ≤ i → i ≤ 64 → holds_semaphores all.groups i ≡ true
+all_semaphores_lent all i whole low high = four_hold semaphore_group all.groups i whole.semaphores
 
 pub all_partitions_lent : (all : AllParts) (i : ℕ) → AreWhole all → 1 ≤ i → i ≤ 64 → holds_partitions all.groups i ≡ true
 all_partitions_lent all i whole low high = four_hold partition_group all.groups i whole.partitions
@@ -49,6 +52,9 @@ four_framed number framed old new is same four = by new ∙ ap (λ (fs : List Gr
 
 pub barriers_framed : (old new : List GroupPart) → group_frames new ≡ group_frames old → AreFour barrier_group old → AreFour barrier_group new
 barriers_framed old new same four = four_framed barrier_group (λ (f : GroupFrame). f.number) old new (λ g. refl) same four
+
+pub semaphores_framed : (old new : List GroupPart) → group_frames new ≡ group_frames old → AreFour semaphore_group old → AreFour semaphore_group new
+semaphores_framed old new same four = four_framed semaphore_group (λ (f : GroupFrame). f.semaphores) old new (λ g. refl) same four
 
 pub partitions_framed : (old new : List GroupPart) → group_frames new ≡ group_frames old → AreFour partition_group old → AreFour partition_group new
 partitions_framed old new same four = four_framed partition_group (λ (f : GroupFrame). f.partitions) old new (λ g. refl) same four
@@ -108,6 +114,7 @@ whole_settled before mid new last whole keeps done =
       numbers = λ c low. ap (λ (p : ClusterPart). p.lined.number) (part_settled last mid.clusters new c done (omega (arith, four, low))) ∙ numbers_kept before mid whole keeps c low;
       laid = subst (λ (s : Scenario). AreLaid s.clusters (layouts new)) (sym keeps.scenario) (subst (AreLaid before.scenario.clusters) (sym (layouts_settled last mid.clusters new done)) keeps.laid);
       groups = barriers_framed before.groups mid.groups keeps.groups whole.groups;
+      semaphores = semaphores_framed before.groups mid.groups keeps.groups whole.semaphores;
       partitions = partitions_framed before.groups mid.groups keeps.groups whole.partitions;
       periods = periods_framed before.groups mid.groups keeps.groups whole.periods;
       time = record {

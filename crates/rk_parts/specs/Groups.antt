@@ -7,19 +7,19 @@ use Rattle.rk_model.specs.declared.status.Status.{Status}
 use Rattle.rk_model.specs.declared.status.Status.TheVariants.{Successful, Waits}
 use Rattle.rk_model.specs.declared.waiting.Wake.{Wake}
 use Rattle.rk_model.specs.Lists.{with_nth}
-use Rattle.rk_model.specs.State.{BarrierState, PartitionState, PeriodState}
+use Rattle.rk_model.specs.State.{SemaphoreState, BarrierState, PartitionState, PeriodState, no_semaphore}
 use Rattle.rk_model.specs.Directives.Barriers.{is_full}
-use Rattle.rk_model.specs.Directives.Waits.{Object, OfBarrier, bare, object_of_wait, without_arrival}
+use Rattle.rk_model.specs.Directives.Waits.{bare, object_of_wait, without_arrival, without_waiter, without_waiter_in}
 use Rattle.rk_model.specs.Queues.{waits_in}
 use Rattle.rk_places.specs.Stores.{Store, group_of, stored_at, put_at}
-use Rattle.rk_signal.specs.Barriers.{Stored, no_stored, without_waiter}
+use Rattle.rk_signal.specs.Barriers.{Stored, no_stored, without_waiter as without_arriver}
 use Rattle.rk_parts.specs.declared.parts.GroupPart.{GroupPart}
-use Rattle.rk_parts.specs.Joined.{barrier_group, partition_group, period_group, held_by, barriers_of, partitions_of, periods_of}
+use Rattle.rk_parts.specs.Joined.{semaphore_group, barrier_group, partition_group, period_group, held_by, semaphores_of, barriers_of, partitions_of, periods_of}
 use Rattle.rk_parts.specs.Lent.{one_more}
 
 -- a group without a place
 abbrev pub no_group : GroupPart
-no_group = record { present = 0; barriers = record { group = 0; places = [] }; partitions = record { group = 0; places = [] }; periods = record { group = 0; places = [] }; wakes = [] }
+no_group = record { present = 0; semaphores = record { group = 0; places = [] }; barriers = record { group = 0; places = [] }; partitions = record { group = 0; places = [] }; periods = record { group = 0; places = [] }; wakes = [] }
 
 -- the group that stands at a place among these
 abbrev pub group_at : List GroupPart → ℕ → GroupPart
@@ -30,7 +30,10 @@ abbrev pub first_of : (GroupPart → ℕ) → List GroupPart → ℕ → Option 
 first_of number [] i = None
 first_of number (group ∷ groups) i = if number group == group_of i then Some 0 else one_more (first_of number groups i)
 
--- as the barriers have the numbers, and as the partitions and the periods have them
+-- as the semaphores have the numbers, and as the barriers, the partitions and the periods have them
+abbrev pub semaphores_in : List GroupPart → ℕ → Option ℕ
+semaphores_in groups i = first_of semaphore_group groups i
+
 abbrev pub group_in : List GroupPart → ℕ → Option ℕ
 group_in groups i = first_of barrier_group groups i
 
@@ -45,7 +48,10 @@ abbrev pub holds : (GroupPart → ℕ) → List GroupPart → ℕ → Bool
 holds number [] i = false
 holds number (group ∷ groups) i = (number group == group_of i) || holds number groups i
 
--- whether the group of an index is lent, as the barriers have the numbers, and as the partitions and the periods have them
+-- whether the group of an index is lent, as the semaphores have the numbers, and as the barriers, the partitions and the periods have them
+abbrev pub holds_semaphores : List GroupPart → ℕ → Bool
+holds_semaphores groups i = holds semaphore_group groups i
+
 abbrev pub is_lent : List GroupPart → ℕ → Bool
 is_lent groups i = holds barrier_group groups i
 
@@ -62,15 +68,20 @@ wakes_in group i = group.wakes
 abbrev pub wakes_at : List GroupPart → ℕ → List Wake
 wakes_at groups i = held_by barrier_group wakes_in [] groups i
 
--- What no directive changes of a group: its number, as its barriers, its partitions and its periods have it, and the present tick.
+-- the same, as the semaphores have the numbers
+abbrev pub woken_in : List GroupPart → ℕ → List Wake
+woken_in groups i = held_by semaphore_group wakes_in [] groups i
+
+-- What no directive changes of a group: its number, as its barriers, its semaphores, its partitions and its periods have it, and the present tick.
 pub record GroupFrame : Type 0 where
   pub number : ℕ
+  pub semaphores : ℕ
   pub partitions : ℕ
   pub periods : ℕ
   pub present : ℕ
 
 abbrev pub group_frame : GroupPart → GroupFrame
-group_frame group = record { number = group.barriers.group; partitions = group.partitions.group; periods = group.periods.group; present = group.present }
+group_frame group = record { number = group.barriers.group; semaphores = group.semaphores.group; partitions = group.partitions.group; periods = group.periods.group; present = group.present }
 
 abbrev pub group_frames : List GroupPart → List GroupFrame
 group_frames groups = map group_frame groups
@@ -80,6 +91,7 @@ pub record PutsBarrier (old : List GroupPart) (i : ℕ) (barrier : BarrierState)
   pub barriers : barriers_of new ≡ with_nth (barriers_of old) i barrier
   pub partitions : partitions_of new ≡ partitions_of old
   pub periods : periods_of new ≡ periods_of old
+  pub semaphores : semaphores_of new ≡ semaphores_of old
   pub kept : group_frames new ≡ group_frames old
 
 -- The groups stand for the partitions with another one at an index, and keep their frame.
@@ -87,6 +99,7 @@ pub record PutsPartition (old : List GroupPart) (i : ℕ) (partition : Partition
   pub partitions : partitions_of new ≡ with_nth (partitions_of old) i partition
   pub barriers : barriers_of new ≡ barriers_of old
   pub periods : periods_of new ≡ periods_of old
+  pub semaphores : semaphores_of new ≡ semaphores_of old
   pub kept : group_frames new ≡ group_frames old
 
 -- The groups stand for the periods with another one at an index, and keep their frame.
@@ -94,11 +107,21 @@ pub record PutsPeriod (old : List GroupPart) (i : ℕ) (period : PeriodState) (n
   pub periods : periods_of new ≡ with_nth (periods_of old) i period
   pub barriers : barriers_of new ≡ barriers_of old
   pub partitions : partitions_of new ≡ partitions_of old
+  pub semaphores : semaphores_of new ≡ semaphores_of old
+  pub kept : group_frames new ≡ group_frames old
+
+-- The groups stand for the semaphores with another one at an index, and keep their frame.
+pub record PutsSemaphore (old : List GroupPart) (i : ℕ) (semaphore : SemaphoreState) (new : List GroupPart) : Type 0 where
+  pub semaphores : semaphores_of new ≡ with_nth (semaphores_of old) i semaphore
+  pub barriers : barriers_of new ≡ barriers_of old
+  pub partitions : partitions_of new ≡ partitions_of old
+  pub periods : periods_of new ≡ periods_of old
   pub kept : group_frames new ≡ group_frames old
 
 -- A thread has left the queue of what it waited for, and the groups keep their frame.
 pub record Leaves (old : List GroupPart) (t : ℕ) (wait : Option Wait) (new : List GroupPart) : Type 0 where
   pub barriers : barriers_of new ≡ without_arrival (barriers_of old) t (object_of_wait wait)
+  pub semaphores : semaphores_of new ≡ without_waiter_in (semaphores_of old) t (object_of_wait wait)
   pub partitions : partitions_of new ≡ partitions_of old
   pub periods : periods_of new ≡ periods_of old
   pub kept : group_frames new ≡ group_frames old
@@ -119,11 +142,10 @@ woken_at barrier = if is_full barrier then ended_waits Successful barrier.arriva
 abbrev pub reply_at : BarrierState → Reply
 reply_at barrier = if is_full barrier then bare Successful else bare Waits
 
--- the barrier at which a thread waits, as the object of its wait
-abbrev pub barrier_object : Option ℕ → Option Object
-barrier_object None = None
-barrier_object (Some i) = Some (OfBarrier i)
-
 -- the barriers of a group after a thread has left one of them, where it waits there
 abbrev pub left_at : Store Stored → ℕ → ℕ → Store Stored
-left_at store i t = if waits_in (stored_at no_stored store i).queue t then put_at store i (without_waiter t (stored_at no_stored store i)) else store
+left_at store i t = if waits_in (stored_at no_stored store i).queue t then put_at store i (without_arriver t (stored_at no_stored store i)) else store
+
+-- the semaphores of a group after a thread has left the queue of one of them; where it doesn't wait there, nothing changes
+abbrev pub left_semaphore : Store SemaphoreState → ℕ → ℕ → Store SemaphoreState
+left_semaphore store i t = put_at store i (without_waiter t (stored_at no_semaphore store i))

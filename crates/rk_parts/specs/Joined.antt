@@ -7,7 +7,7 @@ use Rattle.rk_model.specs.declared.state.Armed.{Armed}
 use Rattle.rk_model.specs.declared.state.Thread.{Thread}
 use Rattle.rk_model.specs.Lists.{nth}
 use Rattle.rk_model.specs.Names.{Table, no_objects}
-use Rattle.rk_model.specs.State.{Plain, ClusterState, BarrierState, PartitionState, PeriodState, no_thread, no_barrier, no_partition, no_period}
+use Rattle.rk_model.specs.State.{Plain, ClusterState, SemaphoreState, BarrierState, PartitionState, PeriodState, no_thread, no_semaphore, no_barrier, no_partition, no_period}
 use Rattle.rk_model.specs.Histories.{free_cluster}
 use Rattle.rk_model.specs.Directives.Objects.{has_begun}
 use Rattle.rk_line.specs.Places.{threads}
@@ -65,7 +65,10 @@ clusters_of counts parts = clusters_by parts counts
 abbrev pub barrier_of : Stored → BarrierState
 barrier_of stored = record { live = stored.live; automatic = stored.automatic; most = stored.most; arrivals = waiting stored.queue.arrivals }
 
--- the number of a group, as its barriers, its partitions and its periods have it
+-- the number of a group, as its semaphores, its barriers, its partitions and its periods have it
+abbrev pub semaphore_group : GroupPart → ℕ
+semaphore_group group = group.semaphores.group
+
 abbrev pub barrier_group : GroupPart → ℕ
 barrier_group group = group.barriers.group
 
@@ -80,7 +83,10 @@ abbrev pub held_by : {X : Type 0} → (GroupPart → ℕ) → (GroupPart → ℕ
 held_by number at none [] i = none
 held_by number at none (group ∷ groups) i = if number group == group_of i then at group i else held_by number at none groups i
 
--- the barrier, the partition and the period that a group has at an index
+-- the semaphore, the barrier, the partition and the period that a group has at an index
+abbrev pub semaphore_in : GroupPart → ℕ → SemaphoreState
+semaphore_in group i = stored_at no_semaphore group.semaphores i
+
 abbrev pub barrier_in : GroupPart → ℕ → BarrierState
 barrier_in group i = barrier_of (stored_at no_stored group.barriers i)
 
@@ -90,7 +96,10 @@ partition_in group i = stored_at no_partition group.partitions i
 abbrev pub period_in : GroupPart → ℕ → PeriodState
 period_in group i = stored_at no_period group.periods i
 
--- the barrier, the partition and the period of an index, in the first of these groups that is its group
+-- the semaphore, the barrier, the partition and the period of an index, in the first of these groups that is its group
+abbrev pub semaphore_held : List GroupPart → ℕ → SemaphoreState
+semaphore_held groups i = held_by semaphore_group semaphore_in no_semaphore groups i
+
 abbrev pub barrier_held : List GroupPart → ℕ → BarrierState
 barrier_held groups i = held_by barrier_group barrier_in no_barrier groups i
 
@@ -99,6 +108,10 @@ partition_held groups i = held_by partition_group partition_in no_partition grou
 
 abbrev pub period_held : List GroupPart → ℕ → PeriodState
 period_held groups i = held_by period_group period_in no_period groups i
+
+-- the semaphores of these groups, at their indices
+unfoldable pub semaphores_of : List GroupPart → List SemaphoreState
+semaphores_of groups = listed (semaphore_held groups) 1 MOST_OBJECTS
 
 -- the barriers of these groups, at their indices
 unfoldable pub barriers_of : List GroupPart → List BarrierState
@@ -114,7 +127,7 @@ periods_of groups = listed (period_held groups) 1 MOST_OBJECTS
 
 -- The state that these parts stand for, in the run of a scenario and with this table.
 abbrev pub joined : Scenario → Table → List ClusterPart → List GroupPart → Plain
-joined s table parts groups = record { scenario = s; present = present_of parts; clusters = clusters_of s.clusters parts; threads = threads_of parts; barriers = barriers_of groups; partitions = partitions_of groups; periods = periods_of groups; table = table }
+joined s table parts groups = record { scenario = s; present = present_of parts; clusters = clusters_of s.clusters parts; threads = threads_of parts; semaphores = semaphores_of groups; barriers = barriers_of groups; partitions = partitions_of groups; periods = periods_of groups; table = table }
 
 -- the state that all parts of a running kernel stand for
 abbrev pub plain_of : AllParts → Plain
@@ -131,6 +144,10 @@ lent parts = joined no_scenario no_objects parts []
 -- the thread of an index, as these parts have it
 abbrev pub thread_lent : List ClusterPart → ℕ → Thread
 thread_lent parts t = nth no_thread (threads_of parts) t
+
+-- the semaphore of an index, as these groups have it; no semaphore at 0 and above 64
+abbrev pub semaphore_lent : List GroupPart → ℕ → SemaphoreState
+semaphore_lent groups i = nth no_semaphore (semaphores_of groups) i
 
 -- the barrier of an index, as these groups have it; no barrier at 0 and above 64
 abbrev pub barrier_lent : List GroupPart → ℕ → BarrierState

@@ -3,7 +3,7 @@ use Rattle.std.specs.Prelude.{ℕ, ◌≡◌, List, [], ◌∷◌, Bool, false, 
 use Rattle.rk_model.specs.declared.ids.Class.{Class}
 use Rattle.rk_model.specs.Lists.{nth, times}
 use Rattle.rk_model.specs.Names.{Names, Table, names_of, with_names, indices, taken}
-use Rattle.rk_model.specs.State.{Objects, no_thread, no_barrier, no_partition, no_period}
+use Rattle.rk_model.specs.State.{Objects, no_thread, no_semaphore, no_barrier, no_partition, no_period}
 use Rattle.rk_model.specs.Directives.Objects.{has_begun, begun_in}
 use Rattle.rk_ids.specs.LiveObjects.{IsSplit}
 
@@ -30,8 +30,9 @@ pub record IsNamed (names : Names) (begun : ℕ → Bool) : Type 0 where
 -- Names and objects agree.
 pub record AreNamed (table : Table) (objects : Objects) : Type 0 where
   pub class : (class : Class) → IsNamed (names_of class table) (begun_in objects class)
-  -- where no task has begun, there is no thread; where no barrier has, no barrier; and so it is with partitions and periods
+  -- where no task has begun, there is no thread; where no barrier has, no barrier; and so it is with the others
   pub blank : (index : ℕ) → has_begun (nth no_thread objects.threads index).life ≡ false → nth no_thread objects.threads index ≡ no_thread
+  pub free : (index : ℕ) → (nth no_semaphore objects.semaphores index).live ≡ false → nth no_semaphore objects.semaphores index ≡ no_semaphore
   pub bare : (index : ℕ) → (nth no_barrier objects.barriers index).live ≡ false → nth no_barrier objects.barriers index ≡ no_barrier
   pub unused : (index : ℕ) → (nth no_partition objects.partitions index).live ≡ false → nth no_partition objects.partitions index ≡ no_partition
   pub idle : (index : ℕ) → (nth no_period objects.periods index).live ≡ false → nth no_period objects.periods index ≡ no_period

@@ -3,7 +3,7 @@ use Rattle.std.specs.Prelude.{ℕ, ◌≡◌, ◌<◌, List, [], ◌∷◌, map,
 use Rattle.rk_parts.specs.declared.parts.ClusterPart.{ClusterPart}
 use Rattle.rk_parts.specs.declared.parts.GroupPart.{GroupPart}
 use Rattle.rk_parts.specs.declared.parts.AllParts.{AllParts}
-use Rattle.rk_parts.specs.Joined.{barrier_group, partition_group, period_group, present_of}
+use Rattle.rk_parts.specs.Joined.{semaphore_group, barrier_group, partition_group, period_group, present_of}
 use Rattle.rk_parts.specs.Lent.{Stored, AreLaid, layouts, stored}
 use Rattle.rk_parts.specs.Noted.{part_at}
 
@@ -38,6 +38,7 @@ pub record AreWhole (all : AllParts) : Type 0 where
   pub numbers : (c : ℕ) → c < 4 → (part_at all.clusters c).lined.number ≡ c
   pub laid : AreLaid all.scenario.clusters (layouts all.clusters)
   pub groups : AreFour barrier_group all.groups
+  pub semaphores : AreFour semaphore_group all.groups
   pub partitions : AreFour partition_group all.groups
   pub periods : AreFour period_group all.groups
   pub time : AreOnTime all

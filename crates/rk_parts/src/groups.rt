@@ -8,14 +8,14 @@ ghost use Rattle.rk_model.specs.declared.state.Wait.TheVariants.{AtBarrier};
 ghost use Rattle.rk_model.specs.Lists.{has};
 ghost use Rattle.rk_model.specs.State.{no_barrier};
 ghost use Rattle.rk_model.specs.Directives.Barriers.{new_barrier};
-ghost use Rattle.rk_model.specs.Directives.Waits.{object_of_wait};
 ghost use Rattle.rk_model.specs.Queues.{waits_in, ended};
 ghost use Rattle.rk_places.specs.Stores.{IsOfGroup, IsStoreOf, stored_at, put_at};
 ghost use Rattle.rk_signal.specs.Barriers.{no_stored, emptied, successful, waited, woken_by_wait, reply_to_wait};
 ghost use Rattle.rk_parts.specs.Joined.{barrier_lent};
-ghost use Rattle.rk_parts.specs.Groups.{group_at, group_in, is_lent, wakes_at, PutsBarrier, Leaves, ended_waits, waited_at, woken_at, reply_at, barrier_object, left_at};
+ghost use Rattle.rk_parts.specs.Groups.{group_at, group_in, is_lent, wakes_at, PutsBarrier, Leaves, ended_waits, waited_at, woken_at, reply_at, left_at};
 
 use crate::parts::GroupPart;
+use crate::semaphores::leave_semaphore;
 use rk_model::limits::MOST_OBJECTS;
 use rk_model::{Caller, Reply, Status, ThreadIx, Wait, Wake};
 use rk_signal::BarrierStore;
@@ -146,16 +146,6 @@ pub fn remove(groups: &mut [GroupPart], index: u16)
     }
 }
 
-/// The index of the barrier at which a thread waits that waits for this.
-fn barrier_awaited(wait: &Option<Wait>) -> Option<u16>
-    ensures { barrier_object result ≡ object_of_wait wait.now }
-{
-    match *wait {
-        Some(Wait::AtBarrier(index)) => Some(index),
-        _ => None,
-    }
-}
-
 /// Takes a thread out of a barrier of a group, where it waits there.
 fn leave_in(barriers: &mut BarrierStore, index: u16, thread: ThreadIx)
     requires { IsOfGroup barriers.old.group index }
@@ -182,8 +172,10 @@ fn leave_barrier(groups: &mut [GroupPart], index: u16, thread: ThreadIx)
 pub fn leave(groups: &mut [GroupPart], thread: ThreadIx, wait: &Option<Wait>)
     ensures { Leaves groups.old thread wait.now groups.new }
 {
-    if let Some(index) = barrier_awaited(wait) {
-        leave_barrier(groups, index, thread);
+    match *wait {
+        Some(Wait::AtBarrier(index)) => leave_barrier(groups, index, thread),
+        Some(Wait::ForSemaphore(index)) => leave_semaphore(groups, index, thread),
+        _ => {}
     }
 }
 

@@ -8,6 +8,7 @@ pub mod partitions;
 pub mod parts;
 pub mod periods;
 pub mod processors;
+pub mod semaphores;
 pub mod settle;
 pub mod standing;
 pub mod table;

@@ -8,6 +8,7 @@ use rk_cluster::{Cluster, Moves};
 use rk_model::{Scenario, Wakes};
 use rk_partition::PartitionStore;
 use rk_period::PeriodStore;
+use rk_sem::SemStore;
 use rk_signal::BarrierStore;
 use rk_wheel::Wheel;
 
@@ -31,6 +32,8 @@ pub struct ClusterPart {
 pub struct GroupPart {
     /// The present tick.
     pub present: u32,
+    /// The semaphores of the group.
+    pub semaphores: SemStore,
     /// The barriers of the group.
     pub barriers: BarrierStore,
     /// The partitions of the group.

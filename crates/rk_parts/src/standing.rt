@@ -48,6 +48,7 @@ pub fn spins(clusters: &[ClusterPart], thread: ThreadIx) -> bool
         Some(Wait::ForEvents(_, _)) => false,
         Some(Wait::AtBarrier(_)) => false,
         Some(Wait::ForPeriod(_)) => false,
+        Some(Wait::ForSemaphore(_)) => false,
     }
 }
 

@@ -46,6 +46,13 @@ impl ThreadQueue {
         })
     }
 
+    /// The order in which it serves.
+    pub fn order(&self) -> Order
+        ensures { result ≡ self.now.order }
+    {
+        self.order
+    }
+
     /// How many threads wait, at most 64.
     pub fn len(&self) -> usize
         ensures value { result ≡ length self.now.arrivals }

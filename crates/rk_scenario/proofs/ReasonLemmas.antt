@@ -10,9 +10,9 @@ use Rattle.rk_model.specs.declared.scenario.Scenario.{Scenario}
 use Rattle.rk_model.specs.declared.scenario.ScenarioWhy.{ScenarioWhy}
 use Rattle.rk_model.specs.declared.scenario.ScenarioWhy.TheVariants.{Header, TooLarge, NotYetBuilt}
 use Rattle.rk_model.specs.Text.Forms.{Operand, Makes, Form, Row, form_of, form_in}
-use Rattle.rk_model.specs.Text.Words.{lines_of, words_of, is_plain, is_skipped, number_of, name_of, name0_of, var_of, is_body_name}
+use Rattle.rk_model.specs.Text.Words.{lines_of, words_of, is_plain, is_skipped, number_of, name_of, name0_of, var_of, is_body_name, semaphore_kind_of, order_of, protocol_of}
 use Rattle.rk_model.specs.Text.Scenarios.{Known, body_of, body_known, cpus_in, is_target}
-use Rattle.rk_model.specs.Text.Reading.{◌>>=◌, Phase, Start, Headed, Clustered, Timed, Limited, InBody, InInits, Draft, start, within, below, given_number, named, led, id_by, number_operand, cluster_operand, var_operand, given_operand, fixed_operand, id_operand, address_operand, goto_operand, name_operand, name0_operand, body_operand, start_operand, either_operand, wish_operand, operand_of, fits, made_of, form_line, line_like, op_line, is_header, is_end, known_at, cluster_line, ticks_line, limit_line, body_line, inner_line, init_operands, init_line, at_headed, at_clustered, at_timed, at_limited, at_inits, in_body, after_statement, after_words, after_line, Fault, Verdict, Faults, at_end, goes_on, verdict_from}
+use Rattle.rk_model.specs.Text.Reading.{◌>>=◌, Phase, Start, Headed, Clustered, Timed, Limited, InBody, InInits, Draft, start, within, below, given_value, named, led, id_by, number_operand, cluster_operand, var_operand, given_operand, fixed_operand, id_operand, address_operand, goto_operand, name_operand, name0_operand, body_operand, start_operand, either_operand, wish_operand, semaphore_kind_operand, order_operand, protocol_operand, operand_of, fits, made_of, form_line, line_like, op_line, is_header, is_end, known_at, cluster_line, ticks_line, limit_line, body_line, inner_line, init_operands, init_line, at_headed, at_clustered, at_timed, at_limited, at_inits, in_body, after_statement, after_words, after_line, Fault, Verdict, Faults, at_end, goes_on, verdict_from}
 use Rattle.rk_scenario.specs.TextLaws.{IsHeaderDue, FaultsHaveTheirReasons}
 use Rattle.rk_scenario.proofs.LeftLinesLemmas.{draft_at}
 use Rattle.rk_scenario.proofs.TextLemmas.{skipped_line, kept_line}
@@ -60,9 +60,9 @@ named_read : (o : Option ℕ) → IsRead (named o)
 named_read None = refl
 named_read (Some n) = tt
 
-known_read : (o : Option ℕ) → IsRead (given_number o)
+known_read : {X : Type 0} (o : Option X) → IsRead (given_value o)
 known_read None = refl
-known_read (Some n) = tt
+known_read (Some x) = tt
 
 led_read : (earlier : List Op) (o : Option ℕ) → IsRead (led earlier o)
 led_read earlier None = refl
@@ -92,7 +92,7 @@ unfolding wish_operand
 wish_read word = if_gives IsAny (bytes_eq word (codes "nowait")) _ _ tt (bind_gives IsAny _ _ (number_read 0 4294967295 word) (λ ticks. tt))
 
 operand_read : (known : Known) (o : Operand) (word : List ℕ) → IsRead (operand_of known o word)
-unfolding operand_of name_operand name0_operand var_operand id_operand address_operand start_operand goto_operand
+unfolding operand_of name_operand name0_operand var_operand id_operand address_operand start_operand goto_operand semaphore_kind_operand order_operand protocol_operand
 operand_read known (Operand.Number least most) word = number_read least most word
 operand_read known Operand.Name word = named_read (name_of word)
 operand_read known Operand.Name0 word = named_read (name0_of word)
@@ -104,6 +104,9 @@ operand_read known Operand.Earlier word = led_read known.earlier (number_of word
 operand_read known Operand.Mode word = either_read (codes "any") (codes "all") word
 operand_read known Operand.Kind word = either_read (codes "manual") (codes "auto") word
 operand_read known Operand.Wish word = wish_read word
+operand_read known Operand.SemaphoreKind word = known_read (semaphore_kind_of word)
+operand_read known Operand.Order word = known_read (order_of word)
+operand_read known Operand.Protocol word = known_read (protocol_of word)
 
 -- ---- lines of a body
 

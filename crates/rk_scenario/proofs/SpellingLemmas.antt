@@ -16,8 +16,8 @@ use Rattle.rk_model.specs.declared.scenario.Scenario.{Scenario}
 use Rattle.rk_model.specs.declared.scenario.ScenarioWhy.{ScenarioWhy}
 use Rattle.rk_model.specs.declared.scenario.ScenarioWhy.TheVariants.{NotYetBuilt}
 use Rattle.rk_model.specs.Text.Words.{number_of, decimal_of, name_of, name0_of, var_of}
-use Rattle.rk_model.specs.Text.Scenarios.{Known, IsNumber, IsId, IsAddress, IsEither, IsWish, IsInit, IsEarlier, body_of, body_known, is_target}
-use Rattle.rk_model.specs.Text.Reading.{◌>>=◌, within, below, given_number, named, led, id_by, number_operand, cluster_operand, var_operand, given_operand, fixed_operand, id_operand, address_operand, goto_operand, name_operand, name0_operand, body_operand, start_operand, either_operand, wish_operand, init_operands}
+use Rattle.rk_model.specs.Text.Scenarios.{IsNumber, IsId, IsAddress, IsEither, IsWish, IsInit, IsEarlier, body_of, is_target}
+use Rattle.rk_model.specs.Text.Reading.{◌>>=◌, within, below, given_value, named, led, id_by, number_operand, cluster_operand, given_operand, fixed_operand, id_operand, address_operand, goto_operand, name_operand, name0_operand, body_operand, either_operand, wish_operand, init_operands}
 
 -- ---- steps that are taken
 
@@ -176,9 +176,13 @@ pub goto_is : (earlier : List Op) (word : List ℕ) (n : ℕ) → IsEarlier earl
 unfolding goto_operand
 goto_is earlier word n h = rw (h.value, h.target) refl
 
-known_ok : (o : Option ℕ) (n : ℕ) → given_number o ≡ Ok n → o ≡ Some n
-known_ok None n e = absurd cc
-known_ok (Some m) n e = ap (λ (k : ℕ). Some k) (ok_is m n e)
+-- a value that a word may spell is taken where the word spells one, and only there
+pub known_ok : {X : Type 0} (o : Option X) (x : X) → given_value o ≡ Ok x → o ≡ Some x
+known_ok None x e = absurd cc
+known_ok {X} (Some y) x e = ap (λ (z : X). Some z) (ok_is y x e)
+
+pub known_is : {X : Type 0} (o : Option X) (x : X) → o ≡ Some x → given_value o ≡ Ok x
+known_is o x e = rw e refl
 
 named_ok : (o : Option ℕ) (name : NameOf) → named o ≡ Ok name → o ≡ Some name.bits
 named_ok None name e = absurd cc
@@ -199,14 +203,6 @@ name0_ok word name e = named_ok (name0_of word) name e
 pub name0_is : (word : List ℕ) (name : NameOf) → name0_of word ≡ Some name.bits → name0_operand word ≡ Ok name
 unfolding name0_operand
 name0_is word name e = rw e refl
-
-pub var_ok : (word : List ℕ) (n : ℕ) → var_operand word ≡ Ok n → var_of word ≡ Some n
-unfolding var_operand
-var_ok word n e = known_ok (var_of word) n e
-
-pub var_is : (word : List ℕ) (n : ℕ) → var_of word ≡ Some n → var_operand word ≡ Ok n
-unfolding var_operand
-var_is word n e = rw e refl
 
 -- what the machine takes as one of two words is it
 pub either_ok : (first second word : List ℕ) (b : Bool) → either_operand first second word ≡ Ok b → IsEither word first second b
@@ -244,21 +240,13 @@ unfolding wish_operand
 wish_is word NoWait h = rw h refl
 wish_is word (Limit ticks) h = rw (number_differs (codes "nowait") word ticks nowait_no_number h.value, number_is 0 4294967295 word ticks h) refl
 
-pub start_ok : (known : Known) (word : List ℕ) (n : ℕ) → start_operand known word ≡ Ok n → body_known known.bodies known.own word ≡ Some n
-unfolding start_operand
-start_ok known word n e = known_ok (body_known known.bodies known.own word) n e
-
-pub start_is : (known : Known) (word : List ℕ) (n : ℕ) → body_known known.bodies known.own word ≡ Some n → start_operand known word ≡ Ok n
-unfolding start_operand
-start_is known word n e = rw e refl
-
 body_ok : (bodies : List Body) (word : List ℕ) (n : ℕ) → body_operand bodies word ≡ Ok n → body_of bodies word ≡ Some n
 unfolding body_operand
 body_ok bodies word n e = known_ok (body_of bodies word) n e
 
 body_is : (bodies : List Body) (word : List ℕ) (n : ℕ) → body_of bodies word ≡ Some n → body_operand bodies word ≡ Ok n
 unfolding body_operand
-body_is bodies word n e = rw e refl
+body_is bodies word n e = known_is (body_of bodies word) n e
 
 -- ---- init lines
 

@@ -4,9 +4,9 @@ ghost use Rattle.std.specs.List.{list_all};
 ghost use Rattle.rk_model.specs.declared.limits.TheConstants.{MOST_LINES};
 ghost use Rattle.rk_model.specs.Text.Words.{digit_value, digit_below, value_from, decimal_of, number_of, name_of, var_of, is_name_byte, is_lower, is_body_byte, is_body_name};
 ghost use Rattle.rk_model.specs.Text.Scenarios.{body_of, body_known, body_from, is_named, may_be_target, is_target};
-ghost use Rattle.rk_model.specs.Text.Reading.{known_at, number_operand, cluster_operand, var_operand, given_operand, fixed_operand, id_operand, address_operand, goto_operand, name_operand, name0_operand, body_operand, start_operand, either_operand, wish_operand};
+ghost use Rattle.rk_model.specs.Text.Reading.{known_at, number_operand, cluster_operand, var_operand, given_operand, fixed_operand, id_operand, address_operand, goto_operand, name_operand, name0_operand, body_operand, start_operand, either_operand, wish_operand, semaphore_kind_operand, order_operand, protocol_operand};
 
-use rk_model::{Body, Name, Op, Scenario, ScenarioWhy, Target, Wish};
+use rk_model::{Body, Name, Op, Order, Protocol, Scenario, ScenarioWhy, SemKind, Target, Wish};
 
 /// Greater than every number that a line may have. Numbers of any length are read, and greater
 /// ones are given as this.
@@ -200,6 +200,48 @@ pub(crate) fn wish_operand(word: &[u8]) -> Result<Wish, ScenarioWhy>
     } else {
         let ticks = any_operand(word)?;
         Ok(Wish::Limit(ticks))
+    }
+}
+
+/// The kind of a semaphore: `counting`, `simple` or `binary`.
+#[tactic(auto, unfolding(rk_model::specs::Text::Reading::semaphore_kind_operand))]
+pub(crate) fn semaphore_kind_operand(word: &[u8]) -> Result<SemKind, ScenarioWhy>
+    ensures { result ≡ semaphore_kind_operand word.now }
+{
+    if word == b"counting".as_slice() {
+        Ok(SemKind::Counting)
+    } else if word == b"simple".as_slice() {
+        Ok(SemKind::Simple)
+    } else if word == b"binary".as_slice() {
+        Ok(SemKind::Binary)
+    } else {
+        Err(ScenarioWhy::NotYetBuilt)
+    }
+}
+
+/// The order in which a semaphore's queue serves: `fifo` or `priority`.
+#[tactic(auto, unfolding(rk_model::specs::Text::Reading::order_operand))]
+pub(crate) fn order_operand(word: &[u8]) -> Result<Order, ScenarioWhy>
+    ensures { result ≡ order_operand word.now }
+{
+    if word == b"fifo".as_slice() {
+        Ok(Order::Fifo)
+    } else if word == b"priority".as_slice() {
+        Ok(Order::Priority)
+    } else {
+        Err(ScenarioWhy::NotYetBuilt)
+    }
+}
+
+/// The protocol of a semaphore: `none`. The others aren't built yet.
+#[tactic(auto, unfolding(rk_model::specs::Text::Reading::protocol_operand))]
+pub(crate) fn protocol_operand(word: &[u8]) -> Result<Protocol, ScenarioWhy>
+    ensures { result ≡ protocol_operand word.now }
+{
+    if word == b"none".as_slice() {
+        Ok(Protocol::NoProtocol)
+    } else {
+        Err(ScenarioWhy::NotYetBuilt)
     }
 }
 

@@ -1,15 +1,16 @@
-ghost use Rattle.std.specs.Prelude.{◌≡◌, ◌≤◌, ◌∷◌, [], length};
+ghost use Rattle.std.specs.Prelude.{◌≡◌, ◌<◌, ◌≤◌, ◌∷◌, [], length};
 ghost use Rattle.rk_model.specs.declared.limits.TheConstants.{MOST_LINES};
 ghost use Rattle.rk_model.specs.Text.Forms.{form_of};
 ghost use Rattle.rk_model.specs.Text.Reading.{known_at, op_line, line_like, form_line};
 
 use crate::operands::{
     address_operand, any_operand, goto_operand, id_operand, kind_operand, mode_operand,
-    name_operand, name0_operand, number_operand, start_operand, var_operand, wish_operand,
+    name_operand, name0_operand, number_operand, order_operand, protocol_operand,
+    semaphore_kind_operand, start_operand, var_operand, wish_operand,
 };
 use crate::words::Word;
 use rk_model::limits::MOST_TICKS;
-use rk_model::{Body, Op, Scenario, ScenarioWhy};
+use rk_model::{Body, Op, Scenario, ScenarioWhy, SemSpec};
 
 /// What a line of an open body stands for behind the lines that this has so far, by its words.
 /// `scenario` is what has been read of the scenario, with the bodies in front of the open one.
@@ -51,6 +52,26 @@ fn read_form(
             b.as_slice(),
             c.as_slice(),
         ),
+        [_, _, _, _, ..] => read_long_form(scenario, body, form, operands),
+        _ => Err(ScenarioWhy::NotYetBuilt),
+    }
+}
+
+/// What a line of the form of this one stands for, by the words behind it, of which there are more
+/// than three.
+#[tactic(auto, unfolding(rk_model::specs::Text::Reading::form_line))]
+fn read_long_form(
+    scenario: &Scenario,
+    body: &Body,
+    form: Op,
+    operands: &[Word],
+) -> Result<Op, ScenarioWhy>
+    requires bodies { length scenario.now.bodies ≤ 255 }
+    requires lines { length body.now.lines ≤ MOST_LINES }
+    requires many { 3 < length operands.now }
+    ensures { result ≡ form_line (known_at scenario.now body.now) (form_of form) operands.now }
+{
+    match operands {
         [a, b, c, d] => read_four(
             scenario,
             body,
@@ -70,6 +91,18 @@ fn read_form(
             d.as_slice(),
             e.as_slice(),
         ),
+        [a, b, c, d, e, f, g] => read_seven(
+            scenario,
+            body,
+            form,
+            a.as_slice(),
+            b.as_slice(),
+            c.as_slice(),
+            d.as_slice(),
+            e.as_slice(),
+            f.as_slice(),
+            g.as_slice(),
+        ),
         _ => Err(ScenarioWhy::NotYetBuilt),
     }
 }
@@ -88,6 +121,9 @@ fn read_one(scenario: &Scenario, body: &Body, form: Op, a: &[u8]) -> Result<Op, 
         Op::TaskResume(_) => Ok(Op::TaskResume(id_operand(a)?)),
         Op::TaskDelete(_) => Ok(Op::TaskDelete(id_operand(a)?)),
         Op::TaskWakeAfter(_) => Ok(Op::TaskWakeAfter(any_operand(a)?)),
+        Op::SemRelease(_) => Ok(Op::SemRelease(id_operand(a)?)),
+        Op::SemFlush(_) => Ok(Op::SemFlush(id_operand(a)?)),
+        Op::SemDelete(_) => Ok(Op::SemDelete(id_operand(a)?)),
         Op::BarrierDelete(_) => Ok(Op::BarrierDelete(id_operand(a)?)),
         Op::PartDelete(_) => Ok(Op::PartDelete(id_operand(a)?)),
         Op::PeriodCancel(_) => Ok(Op::PeriodCancel(id_operand(a)?)),
@@ -113,6 +149,8 @@ fn read_two(
         Op::TaskIdent(_, _) => Ok(Op::TaskIdent(name_operand(a)?, var_operand(b)?)),
         Op::TaskStart(_, _) => Ok(Op::TaskStart(id_operand(a)?, start_operand(scenario, body, b)?)),
         Op::EventSend(_, _) => Ok(Op::EventSend(id_operand(a)?, any_operand(b)?)),
+        Op::SemIdent(_, _) => Ok(Op::SemIdent(name_operand(a)?, var_operand(b)?)),
+        Op::SemObtain(_, _) => Ok(Op::SemObtain(id_operand(a)?, wish_operand(b)?)),
         Op::BarrierIdent(_, _) => Ok(Op::BarrierIdent(name_operand(a)?, var_operand(b)?)),
         Op::BarrierWait(_, _) => Ok(Op::BarrierWait(id_operand(a)?, any_operand(b)?)),
         Op::BarrierRelease(_, _) => Ok(Op::BarrierRelease(id_operand(a)?, var_operand(b)?)),
@@ -210,6 +248,40 @@ fn read_five(
             any_operand(c)?,
             any_operand(d)?,
             var_operand(e)?,
+        )),
+        _ => Err(ScenarioWhy::NotYetBuilt),
+    }
+}
+
+/// What a line of the form of this one with seven operands stands for.
+#[tactic(auto, unfolding(rk_model::specs::Text::Reading::form_line, rk_model::specs::Text::Reading::operand_of))]
+fn read_seven(
+    scenario: &Scenario,
+    body: &Body,
+    form: Op,
+    a: &[u8],
+    b: &[u8],
+    c: &[u8],
+    d: &[u8],
+    e: &[u8],
+    f: &[u8],
+    g: &[u8],
+) -> Result<Op, ScenarioWhy>
+    requires bodies { length scenario.now.bodies ≤ 255 }
+    requires lines { length body.now.lines ≤ MOST_LINES }
+    ensures { result ≡ form_line (known_at scenario.now body.now) (form_of form) (a.now ∷ b.now ∷ c.now ∷ d.now ∷ e.now ∷ f.now ∷ g.now ∷ []) }
+{
+    match form {
+        Op::SemCreate(_, _, _) => Ok(Op::SemCreate(
+            name0_operand(a)?,
+            SemSpec {
+                count: any_operand(b)?,
+                kind: semaphore_kind_operand(c)?,
+                order: order_operand(d)?,
+                protocol: protocol_operand(e)?,
+                ceiling: any_operand(f)?,
+            },
+            var_operand(g)?,
         )),
         _ => Err(ScenarioWhy::NotYetBuilt),
     }

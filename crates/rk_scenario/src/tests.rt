@@ -1,6 +1,8 @@
 use crate::ScenarioError;
 use crate::read::read_scenario;
-use rk_model::{Init, Name, Op, Prio, ScenarioWhy, Target, Wish};
+use rk_model::{
+    Init, Name, Op, Order, Prio, Protocol, ScenarioWhy, SemKind, SemSpec, Target, Wish,
+};
 use std::alloc::Global;
 use std::test::Fail;
 
@@ -19,6 +21,13 @@ fn refusal(alloc: Global, text: &[u8]) -> Option<ScenarioError> {
     }
 }
 
+/// How a text is refused, if it is, whose fifth line is this line of a body.
+fn refusal_of_line(alloc: Global, line: &str) -> Result<Option<ScenarioError>, Fail> {
+    let open = repeated(alloc, FRONT, "body b\n", 1, "")?;
+    let text = repeated(alloc, open.as_str(), line, 1, "end\nbody c\nend\n")?;
+    Ok(refusal(alloc, text.as_bytes()))
+}
+
 /// `head`, so many times `line`, and `tail`.
 fn repeated(alloc: Global, head: &str, line: &str, count: u32, tail: &str) -> Result<String, Fail> {
     let mut text = String::from_str(alloc, head)?;
@@ -27,6 +36,17 @@ fn repeated(alloc: Global, head: &str, line: &str, count: u32, tail: &str) -> Re
     }
     text.push_str(tail)?;
     Ok(text)
+}
+
+/// What a semaphore without a protocol is made with.
+fn unraised(count: u32, kind: SemKind, order: Order, ceiling: u32) -> SemSpec {
+    SemSpec {
+        count,
+        kind,
+        order,
+        protocol: Protocol::NoProtocol,
+        ceiling,
+    }
 }
 
 #[test]
@@ -214,15 +234,59 @@ fn refuses_lines_of_managers(rt: HostRuntime) -> Result<(), Fail> {
         "period.delete v8\n",
         "period.delete v0 v1\n",
     ];
-    let open = repeated(rt.alloc(), FRONT, "body b\n", 1, "")?;
-    let tail = "end\nbody c\nend\n";
+    let want = Some(ScenarioError::Refused {
+        line: 5,
+        why: NOT_YET,
+    });
     for row in rows {
-        let text = repeated(rt.alloc(), open.as_str(), row, 1, tail)?;
-        let want = Some(ScenarioError::Refused {
-            line: 5,
-            why: NOT_YET,
-        });
-        assert_eq!(rt; refusal(rt.alloc(), text.as_bytes()), want, "{row}");
+        assert_eq!(rt; refusal_of_line(rt.alloc(), row)?, want, "{row}");
+    }
+    Ok(())
+}
+
+#[test]
+fn refuses_lines_of_semaphores(rt: HostRuntime) -> Result<(), Fail> {
+    let rows = [
+        "sem.create AAAA 1 counting fifo none 0\n",
+        "sem.create AAAA 1 counting fifo none v0\n",
+        "sem.create AAAA 1 counting fifo none 0 v0 v1\n",
+        "sem.create AAAAA 1 counting fifo none 0 v0\n",
+        "sem.create AAAA x counting fifo none 0 v0\n",
+        "sem.create AAAA 4294967296 counting fifo none 0 v0\n",
+        "sem.create AAAA 1 mutex fifo none 0 v0\n",
+        "sem.create AAAA 1 fifo counting none 0 v0\n",
+        "sem.create AAAA 1 Simple fifo none 0 v0\n",
+        "sem.create AAAA 1 binary lifo none 0 v0\n",
+        "sem.create AAAA 1 binary prio none 0 v0\n",
+        "sem.create AAAA 1 binary priority inherit 0 v0\n",
+        "sem.create AAAA 1 binary priority ceiling 1 v0\n",
+        "sem.create AAAA 1 binary priority mrsp 1 v0\n",
+        "sem.create AAAA 1 binary priority - 0 v0\n",
+        "sem.create AAAA 1 binary priority none 4294967296 v0\n",
+        "sem.create AAAA 1 binary priority none 0 v8\n",
+        "sem.ident - v0\n",
+        "sem.ident AAAA\n",
+        "sem.ident AAAA v8\n",
+        "sem.obtain v0\n",
+        "sem.obtain v8 0\n",
+        "sem.obtain v0 v1\n",
+        "sem.obtain v0 4294967296\n",
+        "sem.release\n",
+        "sem.release v8\n",
+        "sem.release v0 v1\n",
+        "sem.flush\n",
+        "sem.flush v8\n",
+        "sem.flush v0 v1\n",
+        "sem.delete\n",
+        "sem.delete v8\n",
+        "sem.delete v0 v1\n",
+    ];
+    let want = Some(ScenarioError::Refused {
+        line: 5,
+        why: NOT_YET,
+    });
+    for row in rows {
+        assert_eq!(rt; refusal_of_line(rt.alloc(), row)?, want, "{row}");
     }
     Ok(())
 }
@@ -324,6 +388,38 @@ fn reads_lines_of_bodies(rt: HostRuntime) -> Result<(), Fail> {
             "event.receive 0 all 0xffffffff v1\n",
             Op::EventReceive(0, true, Wish::Limit(4_294_967_295), 1),
         ),
+        (
+            "sem.create T_1a 4294967295 counting fifo none 0 v0\n",
+            Op::SemCreate(
+                name,
+                unraised(4_294_967_295, SemKind::Counting, Order::Fifo, 0),
+                0,
+            ),
+        ),
+        (
+            "sem.create - 0 simple priority none 4294967295 v7\n",
+            Op::SemCreate(
+                Name { bits: 0 },
+                unraised(0, SemKind::Simple, Order::Priority, 4_294_967_295),
+                7,
+            ),
+        ),
+        (
+            "sem.create T_1a 1 binary priority none 2 v3\n",
+            Op::SemCreate(name, unraised(1, SemKind::Binary, Order::Priority, 2), 3),
+        ),
+        ("sem.ident T_1a v4\n", Op::SemIdent(name, 4)),
+        (
+            "sem.obtain v1 nowait\n",
+            Op::SemObtain(Target::Var(1), Wish::NoWait),
+        ),
+        (
+            "sem.obtain 0x1a010001 0xffffffff\n",
+            Op::SemObtain(Target::Given(0x1a01_0001), Wish::Limit(4_294_967_295)),
+        ),
+        ("sem.release self\n", Op::SemRelease(Target::Own)),
+        ("sem.flush v2\n", Op::SemFlush(Target::Var(2))),
+        ("sem.delete v3\n", Op::SemDelete(Target::Var(3))),
         (
             "barrier.create T_1a auto 4294967295 v0\n",
             Op::BarrierCreate(name, true, 4_294_967_295, 0),

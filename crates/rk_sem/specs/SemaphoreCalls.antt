@@ -1,5 +1,5 @@
 -- What the calls on the semaphores of a group change, what they answer, and whose waits they end.
-use Rattle.std.specs.Prelude.{ℕ, Bool, List, [], ◌∷◌, if◌then◌else◌}
+use Rattle.std.specs.Prelude.{ℕ, Bool, true, false, List, [], ◌∷◌, if◌then◌else◌}
 use Rattle.rk_model.specs.declared.entry.Reply.{Reply}
 use Rattle.rk_model.specs.declared.scenario.Wish.{Wish}
 use Rattle.rk_model.specs.declared.status.Status.TheVariants.{Successful, Unsatisfied, ObjectWasDeleted}
@@ -21,6 +21,17 @@ abbrev pub reply_to_obtain : Caller → Wish → Bool → SemaphoreState → Rep
 reply_to_obtain by wish closes sem = bare (status_of_obtaining (obtaining by.thread wish closes sem))
 
 -- ---- rtems_semaphore_release
+
+-- whether it serves a waiter
+abbrev pub is_serving : Releasing → Bool
+is_serving (NotReleased status) = false
+is_serving Unnests = false
+is_serving (Serves u) = true
+is_serving Frees = false
+
+-- whether a release by a thread would serve a waiter
+abbrev pub serves : ℕ → SemaphoreState → Bool
+serves by sem = is_serving (releasing by sem)
 
 -- the semaphore after a release
 abbrev pub released : ℕ → SemaphoreState → SemaphoreState

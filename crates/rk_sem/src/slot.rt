@@ -1,12 +1,12 @@
-ghost use Rattle.std.specs.Prelude.{◌≡◌, ◌≢◌, ◌<◌, [], ◌∷◌, true, false, is_some, IfOk, IfSome};
+ghost use Rattle.std.specs.Prelude.{◌≡◌, ◌≢◌, ◌<◌, [], ◌∷◌, true, false, is_some, slice_get, IfOk, IfSome};
 ghost use Rattle.rk_model.specs.declared.limits.TheConstants.{MOST_NESTING};
 ghost use Rattle.rk_model.specs.declared.status.Status.TheVariants.{Successful};
 ghost use Rattle.rk_model.specs.Lists.{has};
-ghost use Rattle.rk_model.specs.Queues.{clusters, waits_in, first_of, ended, IsQueue};
+ghost use Rattle.rk_model.specs.Queues.{clusters, threads, waits_in, first_of, ended, IsQueue};
 ghost use Rattle.rk_model.specs.State.{no_semaphore};
-ghost use Rattle.rk_model.specs.Directives.Semaphores.{is_binary, is_free, is_full, owns, nested, taken, with_waiter, unnested, given_to, handed, freed, flushed, new_semaphore, after_deleting, without_waiter, with_prio_of};
-ghost use Rattle.rk_model.specs.Directives.Waits.{bare};
-ghost use Rattle.rk_sem.specs.SemaphoreCalls.{obtained, reply_to_obtain, released, reply_to_release, woken_by_release, woken_by_flush, reply_to_remove, woken_by_remove};
+ghost use Rattle.rk_model.specs.Directives.Semaphores.{is_binary, is_free, is_full, owns, nested, taken, unnested, given_to, handed, freed, flushed, new_semaphore, after_deleting, with_prio_of};
+ghost use Rattle.rk_model.specs.Directives.Waits.{bare, with_waiter, without_waiter};
+ghost use Rattle.rk_sem.specs.SemaphoreCalls.{obtained, reply_to_obtain, released, reply_to_release, serves, woken_by_release, woken_by_flush, reply_to_remove, woken_by_remove};
 
 use crate::judge::{is_binary, is_counting};
 use rk_model::limits::{MOST_COUNT, MOST_NESTING};
@@ -225,6 +225,34 @@ impl Slot {
             cluster: by.home,
             prio: by.prio,
         });
+    }
+
+    /// The order in which its queue serves.
+    pub(crate) fn order(&self) -> Order
+        ensures { result ≡ self.now.queue.order }
+    {
+        self.queue.order()
+    }
+
+    /// The thread that waits there with so many earlier arrivals, if there is one.
+    pub(crate) fn waiter(&self, at: usize) -> Option<ThreadIx>
+        ensures { result ≡ slice_get (threads self.now.queue.arrivals) at }
+    {
+        match self.queue.waiters().get(at) {
+            None => None,
+            Some(waiter) => Some(waiter.thread),
+        }
+    }
+
+    /// Whether a release by a thread would serve a waiter.
+    pub(crate) fn serves(&self, by: ThreadIx) -> bool
+        requires { self.now.live ≡ true }
+        ensures { result ≡ serves by self.now }
+    {
+        if self.is_binary() && (!self.is_owned_by(by) || self.nesting() > 1) {
+            return false;
+        }
+        self.queue.first().is_some()
     }
 
     /// Releases it once, and hands it to the waiter to be served, if there is one.

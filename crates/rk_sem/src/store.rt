@@ -1,17 +1,17 @@
-ghost use Rattle.std.specs.Prelude.{◌≡◌, ◌<◌, [], true, false, is_some, IfOk, IfSome};
+ghost use Rattle.std.specs.Prelude.{◌≡◌, ◌<◌, [], true, false, is_some, slice_get, IfOk, IfSome};
 ghost use Rattle.std.specs.Borrow.{Lends, sem};
 ghost use Rattle.rk_model.specs.declared.status.Status.TheVariants.{Successful};
 ghost use Rattle.rk_model.specs.Lists.{has};
-ghost use Rattle.rk_model.specs.Queues.{clusters, waits_in, IsQueue};
+ghost use Rattle.rk_model.specs.Queues.{clusters, threads, waits_in, IsQueue};
 ghost use Rattle.rk_model.specs.State.{no_semaphore};
-ghost use Rattle.rk_model.specs.Directives.Semaphores.{is_binary, is_mrsp, judged, new_semaphore, flushed, after_deleting, without_waiter, with_prio_of};
-ghost use Rattle.rk_model.specs.Directives.Waits.{bare};
+ghost use Rattle.rk_model.specs.Directives.Semaphores.{is_binary, is_mrsp, judged, new_semaphore, flushed, after_deleting, with_prio_of};
+ghost use Rattle.rk_model.specs.Directives.Waits.{bare, without_waiter};
 ghost use Rattle.rk_places.specs.Stores.{none_live, IsOfGroup, IsStoreOf, stored_at, put_at};
-ghost use Rattle.rk_sem.specs.SemaphoreCalls.{obtained, reply_to_obtain, released, reply_to_release, woken_by_release, woken_by_flush, reply_to_remove, woken_by_remove};
+ghost use Rattle.rk_sem.specs.SemaphoreCalls.{obtained, reply_to_obtain, released, reply_to_release, serves, woken_by_release, woken_by_flush, reply_to_remove, woken_by_remove};
 
 use crate::judge::judge;
 use crate::slot::Slot;
-use rk_model::{Caller, NoMemory, Prio, Reply, SemSpec, Status, ThreadIx, Wakes, Wish};
+use rk_model::{Caller, NoMemory, Order, Prio, Reply, SemSpec, Status, ThreadIx, Wakes, Wish};
 use rk_places::{PLACES, Places};
 use std::alloc::Global;
 use std::marker::Model;
@@ -146,6 +146,31 @@ impl SemStore {
         ensures reply { result ≡ reply_to_obtain by wish closes (stored_at no_semaphore self.old index) }
     {
         self.slot_mut(index).obtain(by, wish, closes)
+    }
+
+    /// The order in which the queue of a semaphore serves.
+    pub fn order(&self, index: u16) -> Order
+        requires { IsOfGroup self.now.group index }
+        ensures { result ≡ (stored_at no_semaphore self.now index).queue.order }
+    {
+        self.slot(index).order()
+    }
+
+    /// The thread that waits for a semaphore with so many earlier arrivals, if there is one.
+    pub fn waiter(&self, index: u16, at: usize) -> Option<ThreadIx>
+        requires { IsOfGroup self.now.group index }
+        ensures { result ≡ slice_get (threads (stored_at no_semaphore self.now index).queue.arrivals) at }
+    {
+        self.slot(index).waiter(at)
+    }
+
+    /// Whether a release of a semaphore by a thread would serve a waiter.
+    pub fn serves(&self, index: u16, by: ThreadIx) -> bool
+        requires place { IsOfGroup self.now.group index }
+        requires live { (stored_at no_semaphore self.now index).live ≡ true }
+        ensures { result ≡ serves by (stored_at no_semaphore self.now index) }
+    {
+        self.slot(index).serves(by)
     }
 
     /// Releases a semaphore (`rtems_semaphore_release`). The first of these cases that holds decides.

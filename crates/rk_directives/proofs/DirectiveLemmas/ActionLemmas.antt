@@ -2,7 +2,7 @@
 use Rattle.std.proofs.Common.{◌≡◌, ℕ, ◌≤◌, true, false, Option, None, Some, IsSome, arith, refl, sym, ◌∙◌, ap, subst}
 use Rattle.std.proofs.lemmas.Bool.{false≢true}
 use Rattle.rk_model.specs.declared.scenario.Op.{Op}
-use Rattle.rk_model.specs.declared.scenario.Op.TheVariants.{TaskCreate, TaskIdent, TaskStart, TaskSuspend, TaskResume, TaskSetPriority, TaskDelete, TaskWakeAfter, EventSend, EventReceive, BarrierCreate, BarrierIdent, BarrierWait, BarrierRelease, BarrierDelete, PartCreate, PartIdent, PartGet, PartReturn, PartDelete, PeriodCreate, PeriodIdent, PeriodPeriod, PeriodCancel, PeriodDelete}
+use Rattle.rk_model.specs.declared.scenario.Op.TheVariants.{TaskCreate, TaskIdent, TaskStart, TaskSuspend, TaskResume, TaskSetPriority, TaskDelete, TaskWakeAfter, EventSend, EventReceive, SemCreate, SemIdent, SemObtain, SemRelease, SemFlush, SemDelete, BarrierCreate, BarrierIdent, BarrierWait, BarrierRelease, BarrierDelete, PartCreate, PartIdent, PartGet, PartReturn, PartDelete, PeriodCreate, PeriodIdent, PeriodPeriod, PeriodCancel, PeriodDelete}
 use Rattle.rk_model.specs.declared.entry.Answer.{Answer}
 use Rattle.rk_model.specs.declared.entry.Reply.{Reply}
 use Rattle.rk_model.specs.declared.state.Thread.{Thread}
@@ -21,6 +21,7 @@ use Rattle.rk_directives.proofs.GentleChangeLemmas.{gentle_same, gentle_put, gen
 use Rattle.rk_directives.proofs.OutcomeLemmas.{op_of, IsFair, fair_changed, fair_after}
 use Rattle.rk_model.proofs.IndexLemmas.{nth-with_same}
 use Rattle.rk_directives.proofs.DirectiveLemmas.BarriersLemmas.{barrier_create_fair, barrier_ident_fair, barrier_wait_fair, barrier_release_fair, barrier_delete_fair}
+use Rattle.rk_directives.proofs.DirectiveLemmas.SemaphoresLemmas.{semaphore_create_fair, semaphore_ident_fair, semaphore_obtain_fair, semaphore_release_fair, semaphore_flush_fair, semaphore_delete_fair}
 use Rattle.rk_directives.proofs.DirectiveLemmas.PartitionsLemmas.{partition_create_fair, partition_ident_fair, partition_get_fair, partition_return_fair, partition_delete_fair}
 use Rattle.rk_directives.proofs.DirectiveLemmas.PeriodsLemmas.{period_create_fair, period_ident_fair, period_period_fair, period_cancel_fair, period_delete_fair, period_create_sound, period_ident_sound, period_period_sound, period_cancel_sound, period_delete_sound}
 use Rattle.rk_directives.proofs.DirectiveLemmas.KeptPeriodsLemmas.{line_keeps, back_keeps}
@@ -39,6 +40,12 @@ line_fair k t (TaskDelete id) is caller = task_delete_fair k t id caller
 line_fair k t (TaskWakeAfter n) is caller = task_wake_after_fair k t n caller
 line_fair k t (EventSend id set) is caller = event_send_fair k t id set caller
 line_fair k t (EventReceive set all wish var) is caller = event_receive_fair k t set all wish caller
+line_fair k t (SemCreate name spec var) is caller = semaphore_create_fair k t name.bits spec caller
+line_fair k t (SemIdent name var) is caller = semaphore_ident_fair k t name.bits caller
+line_fair k t (SemObtain id wish) is caller = semaphore_obtain_fair k t id wish caller
+line_fair k t (SemRelease id) is caller = semaphore_release_fair k t id caller
+line_fair k t (SemFlush id) is caller = semaphore_flush_fair k t id caller
+line_fair k t (SemDelete id) is caller = semaphore_delete_fair k t id caller
 line_fair k t (BarrierCreate name automatic most var) is caller = barrier_create_fair k t name.bits automatic most caller
 line_fair k t (BarrierIdent name var) is caller = barrier_ident_fair k t name.bits caller
 line_fair k t (BarrierWait id ticks) is caller = barrier_wait_fair k t id ticks caller

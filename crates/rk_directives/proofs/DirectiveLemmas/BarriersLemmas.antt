@@ -6,7 +6,7 @@ use Rattle.rk_model.specs.declared.ids.Class.TheVariants.{Barrier}
 use Rattle.rk_model.specs.declared.scenario.Target.{Target}
 use Rattle.rk_model.specs.declared.state.Thread.{Thread}
 use Rattle.rk_model.specs.declared.state.Wait.{Wait}
-use Rattle.rk_model.specs.declared.state.Wait.TheVariants.{ForTime, ForEvents, AtBarrier, ForPeriod}
+use Rattle.rk_model.specs.declared.state.Wait.TheVariants.{ForTime, ForEvents, AtBarrier, ForPeriod, ForSemaphore}
 use Rattle.rk_model.specs.declared.status.Status.{Status}
 use Rattle.rk_model.specs.declared.status.Status.TheVariants.{Successful, ObjectWasDeleted}
 use Rattle.rk_model.specs.Lists.{nth, times}
@@ -23,6 +23,7 @@ use Rattle.rk_directives.proofs.DirectiveLemmas.ObjectsLemmas.{named_lives}
 use Rattle.rk_directives.proofs.NamesAgreeLemmas.{first_free, named_placed, named_vacated}
 use Rattle.rk_directives.proofs.TieLemmas.{live_within, tied_barrier}
 use Rattle.rk_directives.proofs.GentleChangeLemmas.{gentle_same, gentle_but, gentle_end_wait, Stays}
+use Rattle.rk_directives.proofs.WaitChainLemmas.{joins_unowned}
 use Rattle.rk_directives.proofs.OutcomeLemmas.{stays_as, IsFair, gentle_limited, fair_done, fair_waiting, fair_found, fair_create, fair_ident, fair_if}
 
 -- ---- waits that end one after another
@@ -51,6 +52,7 @@ awaited (Some ForTime) i h = absurd (false≢true h)
 awaited (Some (ForEvents set all)) i h = absurd (false≢true h)
 awaited (Some (AtBarrier j)) i h = (ap (λ n. Some (OfBarrier n)) (same_number j i h), refl)
 awaited (Some (ForPeriod j)) i h = absurd (false≢true h)
+awaited (Some (ForSemaphore j)) i h = absurd (false≢true h)
 
 pub heads : (wait : Option Wait) (i t : ℕ) (behind : List ℕ) → times t (t ∷ behind) ≡ cond (is_for (object_of_wait wait) (OfBarrier i)) 1 0 → Heads wait i t behind
 heads wait i t behind stood = by (is_for (object_of_wait wait) (OfBarrier i)) refl stood where
@@ -110,13 +112,15 @@ placed k index free name automatic most sound is =
       scenario = refl;
       present = refl;
       places = refl;
+      locks = refl;
       halls = length-with_nth barrier k.barriers index;
       pools = refl;
       threads = same.threads;
       lines = same.lines;
       timers = same.timers;
       named = named_placed k.table (objects_of k) index free name barrier sound.named sound.halls is refl;
-      tied = tied_barrier k.barriers k.threads k.clusters but_none index barrier (ap (λ (x : BarrierState). x.arrivals) (sym (sound.named.bare index f.absent))) sound.tied;
+      tied = tied_barrier k.barriers k.semaphores k.threads k.clusters but_none index barrier (ap (λ (x : BarrierState). x.arrivals) (sym (sound.named.bare index f.absent))) sound.tied;
+      chained = sound.chained;
     }
 
 pub barrier_create_fair : (k : Plain) (t name : ℕ) (automatic : Bool) (most : ℕ) → IsCaller k t → IsFair k t (barrier_create k name automatic most)
@@ -129,7 +133,7 @@ barrier_ident_fair k t name caller = fair_ident k t Barrier name caller
 pub barrier_wait_fair : (k : Plain) (t : ℕ) (id : Target) (ticks : ℕ) → IsCaller k t → IsFair k t (barrier_wait k t id ticks)
 barrier_wait_fair k t id ticks caller = fair_found k t (object_named k t Barrier id) _ (λ i is. fair_if k t (is_full (barrier_at k i)) _ _
     (λ _. fair_done k t _ _ _ _ refl (ended_stays k t i Successful caller (barrier_lives k t id i is)))
-    (λ _. fair_waiting k t _ (gentle_limited k t (AtBarrier i) ticks caller (barrier_lives k t id i is) refl (λ _. refl))))
+    (λ _. fair_waiting k t _ (gentle_limited k t (AtBarrier i) ticks caller (barrier_lives k t id i is) refl (λ _. refl) (joins_unowned k.semaphores k.threads t (Some (AtBarrier i)) refl))))
 
 pub barrier_release_fair : (k : Plain) (t : ℕ) (id : Target) → IsCaller k t → IsFair k t (barrier_release k t id)
 barrier_release_fair k t id caller = fair_found k t (object_named k t Barrier id) _ (λ i is. fair_done k t _ _ _ _ refl (ended_stays k t i Successful caller (barrier_lives k t id i is)))
@@ -140,13 +144,15 @@ removed k m i sound gentle emptied live = record {
   scenario = gentle.scenario;
   present = gentle.present;
   places = gentle.places;
+  locks = gentle.locks;
   halls = length-with_nth no_barrier m.barriers i ∙ gentle.halls;
   pools = gentle.pools;
   threads = gentle.threads;
   lines = gentle.lines;
   timers = gentle.timers;
   named = named_vacated m.table (objects_of m) i gentle.named (gentle.halls ∙ sound.halls) live;
-  tied = tied_barrier m.barriers m.threads m.clusters but_none i no_barrier (sym emptied) gentle.tied;
+  tied = tied_barrier m.barriers m.semaphores m.threads m.clusters but_none i no_barrier (sym emptied) gentle.tied;
+  chained = gentle.chained;
 }
 
 pub barrier_delete_fair : (k : Plain) (t : ℕ) (id : Target) → IsCaller k t → IsFair k t (barrier_delete k t id)

@@ -26,6 +26,7 @@ use Rattle.rk_directives.specs.Sound.{IsSound, but_none, is_waiting}
 use Rattle.rk_model.proofs.IndexLemmas.{nth-with_kept}
 use Rattle.rk_directives.proofs.ThreadBoundsLemmas.{bounds_in}
 use Rattle.rk_directives.proofs.GentleChangeLemmas.{Stays, stays_put, stays_end_wait}
+use Rattle.rk_directives.proofs.WaitChainLemmas.{joins_unowned}
 use Rattle.rk_directives.proofs.OutcomeLemmas.{IsFair, gentle_limited, stays_same, fair_refused, fair_done, fair_waiting, fair_found, fair_if}
 use Rattle.rk_directives.proofs.DirectiveLemmas.LentLemmas.{put_alone, put_both}
 use Rattle.rk_directives.proofs.DirectiveLemmas.TasksLemmas.{found_lives}
@@ -63,7 +64,7 @@ event_send_fair k t id set caller = fair_found k t (task_named k t id) _ (λ u i
 
 later_fair : (k : Plain) (t set : ℕ) (all : Bool) (wish : Wish) → IsCaller k t → IsFair k t (receive_later k t set all wish)
 later_fair k t set all NoWait caller = fair_refused k t _
-later_fair k t set all (Limit ticks) caller = fair_waiting k t _ (gentle_limited k t (ForEvents set all) ticks caller tt refl (λ _. refl))
+later_fair k t set all (Limit ticks) caller = fair_waiting k t _ (gentle_limited k t (ForEvents set all) ticks caller tt refl (λ _. refl) (joins_unowned k.semaphores k.threads t (Some (ForEvents set all)) refl))
 
 receive_fair : (k : Plain) (t set : ℕ) (all : Bool) (wish : Wish) (got : Option ℕ) → IsCaller k t → IsFair k t (receive_by k t set all wish got)
 receive_fair k t set all wish None caller = later_fair k t set all wish caller

@@ -1,12 +1,13 @@
 -- All directives but those of the rate-monotonic manager leave periods alone.
-use Rattle.std.proofs.Common.{◌≡◌, ◌≢◌, ℕ, zero, suc, ◌<◌, ◌&&◌, ◌==◌, nat_lt, List, [], ◌∷◌, Bool, true, false, cond, eqb, Option, None, Some, arith, refl, sym, ◌∙◌, ap, bit_or}
+use Rattle.std.proofs.Common.{◌≡◌, ◌≢◌, ℕ, zero, suc, ◌<◌, ◌&&◌, ◌||◌, ◌==◌, nat_lt, List, [], ◌∷◌, Bool, true, false, cond, eqb, Option, None, Some, arith, refl, sym, ◌∙◌, ap, bit_or}
 use Rattle.std.proofs.lemmas.Bool.{false≢true}
 use Rattle.rk_model.specs.declared.entry.Reply.{Reply}
 use Rattle.rk_model.specs.declared.ids.Class.{Class}
-use Rattle.rk_model.specs.declared.ids.Class.TheVariants.{Task, Barrier, Partition}
+use Rattle.rk_model.specs.declared.ids.Class.TheVariants.{Task, Semaphore, Barrier, Partition}
 use Rattle.rk_model.specs.declared.scenario.Op.{Op}
-use Rattle.rk_model.specs.declared.scenario.Op.TheVariants.{Work, Goto, TaskCreate, TaskIdent, TaskStart, TaskSuspend, TaskResume, TaskSetPriority, TaskDelete, TaskWakeAfter, EventSend, EventReceive, BarrierCreate, BarrierIdent, BarrierWait, BarrierRelease, BarrierDelete, PartCreate, PartIdent, PartGet, PartReturn, PartDelete, PeriodCreate, PeriodIdent, PeriodPeriod, PeriodCancel, PeriodDelete}
+use Rattle.rk_model.specs.declared.scenario.Op.TheVariants.{Work, Goto, TaskCreate, TaskIdent, TaskStart, TaskSuspend, TaskResume, TaskSetPriority, TaskDelete, TaskWakeAfter, EventSend, EventReceive, SemCreate, SemIdent, SemObtain, SemRelease, SemFlush, SemDelete, BarrierCreate, BarrierIdent, BarrierWait, BarrierRelease, BarrierDelete, PartCreate, PartIdent, PartGet, PartReturn, PartDelete, PeriodCreate, PeriodIdent, PeriodPeriod, PeriodCancel, PeriodDelete}
 use Rattle.rk_model.specs.declared.scenario.Target.{Target}
+use Rattle.rk_model.specs.declared.semaphore.SemSpec.{SemSpec}
 use Rattle.rk_model.specs.declared.scenario.Wish.{Wish}
 use Rattle.rk_model.specs.declared.scenario.Wish.TheVariants.{NoWait, Limit}
 use Rattle.rk_model.specs.declared.state.Armer.TheVariants.{Thread as OfThread}
@@ -14,28 +15,31 @@ use Rattle.rk_model.specs.declared.state.Life.{Life}
 use Rattle.rk_model.specs.declared.state.Life.TheVariants.{Absent, Dormant, Started, Ended}
 use Rattle.rk_model.specs.declared.state.Thread.{Thread}
 use Rattle.rk_model.specs.declared.state.Wait.{Wait}
-use Rattle.rk_model.specs.declared.state.Wait.TheVariants.{ForTime, ForEvents, AtBarrier, ForPeriod}
+use Rattle.rk_model.specs.declared.state.Wait.TheVariants.{ForTime, ForEvents, AtBarrier, ForPeriod, ForSemaphore}
 use Rattle.rk_model.specs.declared.status.Status.{Status}
-use Rattle.rk_model.specs.declared.status.Status.TheVariants.{Successful, ObjectWasDeleted}
+use Rattle.rk_model.specs.declared.status.Status.TheVariants.{Successful, Unsatisfied, ObjectWasDeleted}
 use Rattle.rk_model.specs.Lists.{nth, times}
 use Rattle.rk_model.specs.Names.{taken, least_named}
-use Rattle.rk_model.specs.State.{Plain, PeriodState, objects_of, no_thread, no_period, thread_at, put_thread, barrier_at, partition_at, period_at}
+use Rattle.rk_model.specs.State.{Plain, SemaphoreState, PeriodState, objects_of, no_thread, no_semaphore, no_period, thread_at, put_thread, semaphore_at, put_semaphore, barrier_at, partition_at, period_at}
 use Rattle.rk_model.specs.Scheduling.Timers.{cancel}
 use Rattle.rk_model.specs.Directives.Objects.{has_begun, names_in, put_names, object_named, bits_of, create_at, unless, create, on_named, ident}
 use Rattle.rk_model.specs.Directives.Outcomes.{Outcome, Refused, Done, Waiting, Gone, on_found, changed, arrived}
-use Rattle.rk_model.specs.Directives.Waits.{OfBarrier, object_of_wait, is_for, leave, bare}
+use Rattle.rk_model.specs.Directives.Waits.{OfBarrier, OfSemaphore, object_of_wait, is_for, leave, bare}
 use Rattle.rk_model.specs.Directives.Tasks.{task_named, dormant_in, prio_refusal, task_create, task_ident, is_dormant, with_started, task_start, with_suspended, task_suspend, task_resume, task_set_priority, without_task, has_created, task_delete, task_exit, task_wake_after}
 use Rattle.rk_model.specs.Directives.Events.{seized, left_of, with_pending, with_seized, seized_by, sent, event_send, receive_later, receive_by, event_receive}
 use Rattle.rk_model.specs.Directives.Barriers.{most_refusal, barrier_create, barrier_ident, end_at, is_full, barrier_wait, barrier_release, without_barrier, barrier_delete}
 use Rattle.rk_model.specs.Directives.Partitions.{is_out, is_in_use, memory_refusal, partition_create, partition_ident, taken_first, partition_get, partition_return, partition_delete}
 use Rattle.rk_model.specs.Directives.Periods.{is_awaited}
+use Rattle.rk_model.specs.Directives.Semaphores.{is_owned, Obtaining, Nests, Takes, NotObtained, Enters, Releasing, NotReleased, Unnests, Serves, Frees, handed_to, flushed, up_to_date, semaphore_create, semaphore_ident, obtained_at, semaphore_obtain, served_at, released_at, semaphore_release, emptied_at, semaphore_flush, without_semaphore, semaphore_delete, has_obtained}
 use Rattle.rk_model.specs.Steps.{directive, back}
 use Rattle.rk_model.proofs.BooleanLemmas.{equal_test, or_back}
 use Rattle.rk_directives.specs.Calls.{IsActing}
 use Rattle.rk_directives.specs.Sound.{IsSound}
 use Rattle.rk_directives.specs.SoundPeriods.{awaits, IsAwaitedBy, Owner, owner_of, KeepsPeriods}
 use Rattle.rk_directives.proofs.NamesAgreeLemmas.{first_free}
-use Rattle.rk_directives.proofs.PeriodsKeptLemmas.{keeps_beside, keeps_same, keeps_then, keeps_names, keeps_leave, keeps_put, keeps_apart, keeps_cancel, keeps_end_wait, keeps_end_each, keeps_limited}
+use Rattle.rk_directives.proofs.PeriodsKeptLemmas.{keeps_beside, keeps_same, keeps_then, keeps_names, keeps_leave, keeps_put, keeps_apart, keeps_cancel, keeps_stop_wait, keeps_end_wait, keeps_stop_each, keeps_end_each, keeps_limited}
+use Rattle.rk_directives.proofs.DirectiveLemmas.SemaphoresLemmas.{waiting, stands_for, first_stands, serves_first}
+use Rattle.rk_model.proofs.CountLemmas.{times-has}
 
 -- ---- outcomes
 
@@ -167,9 +171,14 @@ without_task_keeps k u sound none =
     (keeps_apart idle u no_thread (λ i lives is. false≢true (sym none ∙ created_one k.periods i u lives is)) (sym (awaits_none k u sound none))))
     (keeps_names gone (without_task k u).table)
 
+neither_back : (a b : Bool) → (a || b) ≡ false → b ≡ false
+neither_back true b e = absurd (false≢true (sym e))
+neither_back false b e = e
+
 pub task_delete_keeps : (k : Plain) (t : ℕ) (id : Target) → IsSound k → LeavesPeriods k (task_delete k t id)
-task_delete_keeps k t id sound = keeps_found k (task_named k t id) _ (λ u _. keeps_if k (has_created k.periods u) _ _ (λ _. keeps_refused k _)
-    (λ none. keeps_if k (eqb u t) _ _ (λ _. keeps_gone k _ _ (without_task_keeps k u sound none)) (λ _. keeps_done k _ _ _ _ (without_task_keeps k u sound none))))
+task_delete_keeps k t id sound = keeps_found k (task_named k t id) _ (λ u _. keeps_if k (has_obtained k.semaphores u || has_created k.periods u) _ _ (λ _. keeps_refused k _) (λ free.
+    (let none = neither_back (has_obtained k.semaphores u) (has_created k.periods u) free in
+    keeps_if k (eqb u t) _ _ (λ _. keeps_gone k _ _ (without_task_keeps k u sound none)) (λ _. keeps_done k _ _ _ _ (without_task_keeps k u sound none)))))
 
 pub task_exit_keeps : (k : Plain) (t : ℕ) → has_begun (thread_at k t).life ≡ true → LeavesPeriods k (task_exit k t)
 task_exit_keeps k t lives = keeps_gone k _ _ (keeps_put k t (record (thread_at k t) { life = Ended }) (lives_on (thread_at k t) Ended refl lives))
@@ -189,6 +198,7 @@ seized_awaits pending got (Some ForTime) is = refl
 seized_awaits pending got (Some (ForEvents set all)) is = refl
 seized_awaits pending got (Some (AtBarrier i)) is = refl
 seized_awaits pending got (Some (ForPeriod i)) is = let no : ⊥ = cc in absurd no
+seized_awaits pending got (Some (ForSemaphore i)) is = let no : ⊥ = cc in absurd no
 
 seized_keeps : (k : Plain) (u pending : ℕ) (got : Option ℕ) → ((n : ℕ) → got ≡ Some n → awaits (thread_at k u).wait ≡ None) → KeepsPeriods k (with_seized k u pending got)
 seized_keeps k u pending None none = keeps_same k
@@ -225,6 +235,7 @@ at_barrier (Some ForTime) i h = refl
 at_barrier (Some (ForEvents set all)) i h = refl
 at_barrier (Some (AtBarrier j)) i h = refl
 at_barrier (Some (ForPeriod j)) i h = absurd (false≢true h)
+at_barrier (Some (ForSemaphore j)) i h = absurd (false≢true h)
 
 -- nor does who stands in its queue
 queue_awaits : (k : Plain) (i t : ℕ) → IsSound k → 0 < times t (barrier_at k i).arrivals → awaits (thread_at k t).wait ≡ None
@@ -253,6 +264,62 @@ barrier_release_keeps k t id sound = keeps_found k (object_named k t Barrier id)
 pub barrier_delete_keeps : (k : Plain) (t : ℕ) (id : Target) → IsSound k → LeavesPeriods k (barrier_delete k t id)
 barrier_delete_keeps k t id sound = keeps_found k (object_named k t Barrier id) _ (λ i _. keeps_done k _ _ _ _
     (keeps_then k (end_at k i ObjectWasDeleted) (without_barrier k i) (ended_keeps k i ObjectWasDeleted sound) (keeps_beside (end_at k i ObjectWasDeleted) (without_barrier k i) refl refl refl refl)))
+
+-- ---- the semaphore manager
+
+-- who waits for a semaphore awaits no period
+for_semaphore : (wait : Option Wait) (i : ℕ) → is_for (object_of_wait wait) (OfSemaphore i) ≡ true → awaits wait ≡ None
+for_semaphore None i h = refl
+for_semaphore (Some ForTime) i h = refl
+for_semaphore (Some (ForEvents set all)) i h = refl
+for_semaphore (Some (AtBarrier j)) i h = absurd (false≢true h)
+for_semaphore (Some (ForPeriod j)) i h = absurd (false≢true h)
+for_semaphore (Some (ForSemaphore j)) i h = refl
+
+-- nor does who stands in its queue
+waiter_awaits : (k : Plain) (i t : ℕ) → IsSound k → 0 < times t (waiting (semaphore_at k i)) → awaits (thread_at k t).wait ≡ None
+waiter_awaits k i t sound some = for_semaphore (thread_at k t).wait i (stands_for k i t sound some)
+
+pub semaphore_create_keeps : (k : Plain) (t name : ℕ) (spec : SemSpec) → LeavesPeriods k (semaphore_create k t name spec)
+semaphore_create_keeps k t name spec = keeps_create k Semaphore name _ _ (λ index free is. keeps_beside k _ refl refl refl refl)
+
+pub semaphore_ident_keeps : (k : Plain) (name : ℕ) → LeavesPeriods k (semaphore_ident k name)
+semaphore_ident_keeps k name = keeps_ident k Semaphore name
+
+obtaining_keeps : (k : Plain) (t i : ℕ) (obtaining : Obtaining) → (thread_at k t).wait ≡ None → LeavesPeriods k (obtained_at k t i obtaining)
+obtaining_keeps k t i Nests free = keeps_done k _ _ _ _ (keeps_beside k _ refl refl refl refl)
+obtaining_keeps k t i Takes free = keeps_done k _ _ _ _ (keeps_beside k _ refl refl refl refl)
+obtaining_keeps k t i (NotObtained status) free = keeps_refused k status
+obtaining_keeps k t i (Enters ticks) free = keeps_waiting k _ (keeps_limited k t (ForSemaphore i) ticks refl free)
+
+pub semaphore_obtain_keeps : (k : Plain) (t : ℕ) (id : Target) (wish : Wish) → (thread_at k t).wait ≡ None → LeavesPeriods k (semaphore_obtain k t id wish)
+semaphore_obtain_keeps k t id wish free = keeps_found k (object_named k t Semaphore id) _ (λ i _. obtaining_keeps k t i _ free)
+
+served_keeps : (k : Plain) (i u : ℕ) → awaits (thread_at k u).wait ≡ None → KeepsPeriods k (served_at k i u)
+served_keeps k i u none =
+    let m = put_semaphore k i (handed_to u (up_to_date k (semaphore_at k i))) in
+    keeps_then k m (served_at k i u) (keeps_beside k m refl refl refl refl) (keeps_stop_wait m u (bare Successful) none)
+
+releasing_keeps : (k : Plain) (i : ℕ) (releasing : Releasing) → ((u : ℕ) → releasing ≡ Serves u → awaits (thread_at k u).wait ≡ None) → LeavesPeriods k (released_at k i releasing)
+releasing_keeps k i (NotReleased status) none = keeps_refused k status
+releasing_keeps k i Unnests none = keeps_done k _ _ _ _ (keeps_beside k _ refl refl refl refl)
+releasing_keeps k i (Serves u) none = keeps_done k _ _ _ _ (served_keeps k i u (none u refl))
+releasing_keeps k i Frees none = keeps_done k _ _ _ _ (keeps_beside k _ refl refl refl refl)
+
+pub semaphore_release_keeps : (k : Plain) (t : ℕ) (id : Target) → IsSound k → LeavesPeriods k (semaphore_release k t id)
+semaphore_release_keeps k t id sound = keeps_found k (object_named k t Semaphore id) _ (λ i _. releasing_keeps k i _ (λ u is. waiter_awaits k i u sound (times-has u (waiting (semaphore_at k i)) (first_stands k i u (serves_first t (up_to_date k (semaphore_at k i)) u is)))))
+
+emptied_keeps : (k : Plain) (i : ℕ) (sem : SemaphoreState) (status : Status) → IsSound k → KeepsPeriods k (emptied_at k i sem status)
+emptied_keeps k i sem status sound =
+    keeps_then k (put_semaphore k i sem) (emptied_at k i sem status) (keeps_beside k (put_semaphore k i sem) refl refl refl refl)
+    (keeps_stop_each (put_semaphore k i sem) (waiting (semaphore_at k i)) (bare status) (λ t some. waiter_awaits k i t sound some))
+
+pub semaphore_flush_keeps : (k : Plain) (t : ℕ) (id : Target) → IsSound k → LeavesPeriods k (semaphore_flush k t id)
+semaphore_flush_keeps k t id sound = keeps_found k (object_named k t Semaphore id) _ (λ i _. keeps_done k _ _ _ _ (emptied_keeps k i (flushed (semaphore_at k i)) Unsatisfied sound))
+
+pub semaphore_delete_keeps : (k : Plain) (t : ℕ) (id : Target) → IsSound k → LeavesPeriods k (semaphore_delete k t id)
+semaphore_delete_keeps k t id sound = keeps_found k (object_named k t Semaphore id) _ (λ i _. keeps_if k (is_owned (semaphore_at k i)) _ _ (λ _. keeps_refused k _)
+    (λ _. keeps_done k _ _ _ _ (keeps_then k (emptied_at k i no_semaphore ObjectWasDeleted) (without_semaphore k i) (emptied_keeps k i no_semaphore ObjectWasDeleted sound) (keeps_names (emptied_at k i no_semaphore ObjectWasDeleted) (without_semaphore k i).table))))
 
 -- ---- the partition manager
 
@@ -306,6 +373,12 @@ op_leaves k t (TaskDelete id) acts other = task_delete_keeps k t id acts.sound
 op_leaves k t (TaskWakeAfter n) acts other = task_wake_after_keeps k t n acts.waits_not
 op_leaves k t (EventSend id set) acts other = event_send_keeps k t id set
 op_leaves k t (EventReceive set all wish var) acts other = event_receive_keeps k t set all wish acts.waits_not
+op_leaves k t (SemCreate name spec var) acts other = semaphore_create_keeps k t name.bits spec
+op_leaves k t (SemIdent name var) acts other = semaphore_ident_keeps k name.bits
+op_leaves k t (SemObtain id wish) acts other = semaphore_obtain_keeps k t id wish acts.waits_not
+op_leaves k t (SemRelease id) acts other = semaphore_release_keeps k t id acts.sound
+op_leaves k t (SemFlush id) acts other = semaphore_flush_keeps k t id acts.sound
+op_leaves k t (SemDelete id) acts other = semaphore_delete_keeps k t id acts.sound
 op_leaves k t (BarrierCreate name automatic most var) acts other = barrier_create_keeps k name.bits automatic most
 op_leaves k t (BarrierIdent name var) acts other = barrier_ident_keeps k name.bits
 op_leaves k t (BarrierWait id ticks) acts other = barrier_wait_keeps k t id ticks acts.sound acts.waits_not

@@ -6,6 +6,7 @@ use Rattle.std.proofs.lemmas.Bool.Decides.{nat_tests}
 use Rattle.rk_model.specs.declared.entry.Answer.{Answer}
 use Rattle.rk_model.specs.declared.entry.Answer.TheVariants as told
 use Rattle.rk_model.specs.declared.entry.Reply.{Reply}
+use Rattle.rk_model.specs.declared.ids.Class.{Class}
 use Rattle.rk_model.specs.declared.ids.Class.TheVariants.{Barrier}
 use Rattle.rk_model.specs.declared.scenario.Scenario.{Scenario}
 use Rattle.rk_model.specs.declared.scenario.Target.{Target}
@@ -14,6 +15,7 @@ use Rattle.rk_model.specs.declared.state.Wait.{Wait}
 use Rattle.rk_model.specs.declared.state.Wait.TheVariants.{AtBarrier}
 use Rattle.rk_model.specs.declared.status.Status.{Status}
 use Rattle.rk_model.specs.declared.status.Status.TheVariants.{Successful, InvalidId, InvalidNumber, ObjectWasDeleted, Waits}
+use Rattle.rk_model.specs.declared.waiting.Caller.{Caller}
 use Rattle.rk_model.specs.declared.waiting.Wake.{Wake}
 use Rattle.rk_model.specs.Ids.{id_of}
 use Rattle.rk_model.specs.Lists.{nth, with_nth, times, has}
@@ -21,7 +23,7 @@ use Rattle.rk_model.specs.Names.{Table}
 use Rattle.rk_model.specs.State.{Plain, BarrierState, no_thread, no_barrier, thread_at, barrier_at, put_barrier}
 use Rattle.rk_model.specs.Directives.Objects.{has_begun, object_named, without_object, create}
 use Rattle.rk_model.specs.Directives.Outcomes.{Outcome, Refused, Waiting, done, on_found, answer_of, changed}
-use Rattle.rk_model.specs.Directives.Waits.{OfBarrier, object_of_wait, is_for, without, without_arrival, enter, leave, start_wait, start_limited, begin_limited, stop_wait, end_each, bare}
+use Rattle.rk_model.specs.Directives.Waits.{Object, OfBarrier, object_of_wait, is_for, arrivals_in, caller_at, without, without_arrival, without_waiter_in, enter, leave, start_wait, start_limited, begin_limited, stop_wait, end_each, bare}
 use Rattle.rk_model.specs.Directives.Barriers.{new_barrier, most_refusal, barrier_create, is_full, end_at, barrier_wait, barrier_release, without_barrier, barrier_delete}
 use Rattle.rk_model.proofs.BooleanLemmas.{equal_test, same_number}
 use Rattle.rk_model.proofs.CountLemmas.{has_none}
@@ -29,7 +31,7 @@ use Rattle.rk_model.proofs.IndexLemmas.{nth-with_same, nth-with_other, length-wi
 use Rattle.rk_parts.specs.declared.parts.ClusterPart.{ClusterPart}
 use Rattle.rk_parts.specs.declared.parts.GroupPart.{GroupPart}
 use Rattle.rk_parts.specs.Groups.{PutsBarrier, ended_waits, waited_at, woken_at}
-use Rattle.rk_parts.specs.Joined.{placed_in, lives_in, held, joined, threads_of, thread_lent, barrier_lent}
+use Rattle.rk_parts.specs.Joined.{placed_in, lives_in, held, joined, threads_of, semaphores_of, barriers_of, thread_lent, barrier_lent}
 use Rattle.rk_parts.specs.Lent.{Frame}
 use Rattle.rk_model.specs.declared.state.Armer.TheVariants.{Thread as OfThread}
 use Rattle.rk_model.specs.Scheduling.Timers.{arm}
@@ -61,9 +63,9 @@ waiting_lives parts (suc i) waits =
     (λ w. absurd (false≢true (rw (get_or_past (threads_of parts) i no_thread w) at waits)))
     (cases_lt i (length (threads_of parts)))
 
-stands_waits : (wait : Option Wait) (i n : ℕ) → 0 < n → n ≡ cond (is_for (object_of_wait wait) (OfBarrier i)) 1 0 → is_waiting wait ≡ true
-stands_waits None i n some e = absurd (omega (arith, some, e))
-stands_waits (Some w) i n some e = refl
+stands_waits : (wait : Option Wait) (object : Object) (n : ℕ) → 0 < n → n ≡ cond (is_for (object_of_wait wait) object) 1 0 → is_waiting wait ≡ true
+stands_waits None object n some e = absurd (omega (arith, some, e))
+stands_waits (Some w) object n some e = refl
 
 all_live : (parts : List ClusterPart) (status : Status) (ts : List ℕ) → ((t : ℕ) → 0 < times t ts → has_begun (thread_lent parts t).life ≡ true) → AllLive parts (ended_waits status ts)
 all_live parts status [] lives = tt
@@ -71,19 +73,25 @@ all_live parts status (t ∷ ts) lives =
     (lives t (let here : (t == t) ≡ true = equal_test t t refl in rw here (omega arith)), all_live parts status ts (λ u some. lives u (omega (arith, some))))
 
 -- all that stand in a queue live
-pub queue_lives : (parts : List ClusterPart) (groups : List GroupPart) (i : ℕ) (status : Status) → IsQueueOf parts groups i → AllLive parts (ended_waits status (barrier_lent groups i).arrivals)
-queue_lives parts groups i status queue = all_live parts status (barrier_lent groups i).arrivals (λ t some. waiting_lives parts t (stands_waits (thread_lent parts t).wait i _ some (queue t)))
+pub queued_live : (parts : List ClusterPart) (groups : List GroupPart) (object : Object) (status : Status) → IsQueueOf parts groups object → AllLive parts (ended_waits status (arrivals_in (barriers_of groups) (semaphores_of groups) object))
+queued_live parts groups object status queue = all_live parts status (arrivals_in (barriers_of groups) (semaphores_of groups) object) (λ t some. waiting_lives parts t (stands_waits (thread_lent parts t).wait object _ some (queue t)))
+
+pub queue_lives : (parts : List ClusterPart) (groups : List GroupPart) (i : ℕ) (status : Status) → IsQueueOf parts groups (OfBarrier i) → AllLive parts (ended_waits status (barrier_lent groups i).arrivals)
+queue_lives parts groups i status queue = queued_live parts groups (OfBarrier i) status queue
 
 -- so do all whose wait ends when another thread comes,
-pub woken_live : (parts : List ClusterPart) (groups : List GroupPart) (i : ℕ) (wakes : List Wake) → IsQueueOf parts groups i → wakes ≡ woken_at (barrier_lent groups i) → AllLive parts wakes
+pub woken_live : (parts : List ClusterPart) (groups : List GroupPart) (i : ℕ) (wakes : List Wake) → IsQueueOf parts groups (OfBarrier i) → wakes ≡ woken_at (barrier_lent groups i) → AllLive parts wakes
 woken_live parts groups i wakes queue is = subst (AllLive parts) (sym is) (by (is_full (barrier_lent groups i))) where
   by : (full : Bool) → AllLive parts (cond full (ended_waits Successful (barrier_lent groups i).arrivals) [])
   by true = queue_lives parts groups i Successful queue
   by false = tt
 
 -- and a thread that waits for nothing doesn't stand there
-pub free_absent : (parts : List ClusterPart) (groups : List GroupPart) (i t : ℕ) → IsQueueOf parts groups i → (thread_lent parts t).wait ≡ None → has (barrier_lent groups i).arrivals t ≡ false
-free_absent parts groups i t queue free = has_none t (barrier_lent groups i).arrivals (queue t ∙ ap (λ w. cond (is_for (object_of_wait w) (OfBarrier i)) 1 0) free)
+pub free_apart : (parts : List ClusterPart) (groups : List GroupPart) (object : Object) (t : ℕ) → IsQueueOf parts groups object → (thread_lent parts t).wait ≡ None → has (arrivals_in (barriers_of groups) (semaphores_of groups) object) t ≡ false
+free_apart parts groups object t queue free = has_none t (arrivals_in (barriers_of groups) (semaphores_of groups) object) (queue t ∙ ap (λ w. cond (is_for (object_of_wait w) object) 1 0) free)
+
+pub free_absent : (parts : List ClusterPart) (groups : List GroupPart) (i t : ℕ) → IsQueueOf parts groups (OfBarrier i) → (thread_lent parts t).wait ≡ None → has (barrier_lent groups i).arrivals t ≡ false
+free_absent parts groups i t queue free = free_apart parts groups (OfBarrier i) t queue free
 
 -- ---- waits that end one after another
 
@@ -115,7 +123,7 @@ drained k i (u ∷ us) status low high stand queue =
     let head = heads (thread_at k u).wait i u us (ap (times u) (sym stand) ∙ queue u) in
     let out : without u (barrier_at k i).arrivals ≡ us = ap (without u) stand ∙ without_first u us head.once in
     let left : leave k u ≡ put_barrier k i (requeued k i us) =
-    ap (λ o. record k { barriers = without_arrival k.barriers u o }) head.awaits ∙ ap (λ ts. put_barrier k i (requeued k i ts)) out in
+    ap (λ o. record k { barriers = without_arrival k.barriers u o; semaphores = without_waiter_in k.semaphores u o }) head.awaits ∙ ap (λ ts. put_barrier k i (requeued k i ts)) out in
     let mid = stop_wait (put_barrier k i (requeued k i us)) u reply in
     let here : barrier_at mid i ≡ requeued k i us = nth-with_same no_barrier (requeued k i us) k.barriers i low high in
     let size : length mid.barriers ≡ length k.barriers = length-with_nth (requeued k i us) k.barriers i in
@@ -147,14 +155,14 @@ drained k i (u ∷ us) status low high stand queue =
 -- ---- in lent parts
 
 -- the state in which all waits at a barrier have ended, by the wakes of the manager
-ended_by : (s : Scenario) (table : Table) (parts : List ClusterPart) (groups : List GroupPart) (i : ℕ) (status : Status) → 1 ≤ i → i ≤ 64 → IsQueueOf parts groups i →
+ended_by : (s : Scenario) (table : Table) (parts : List ClusterPart) (groups : List GroupPart) (i : ℕ) (status : Status) → 1 ≤ i → i ≤ 64 → IsQueueOf parts groups (OfBarrier i) →
     end_at (joined s table parts groups) i status ≡ woken (put_barrier (joined s table parts groups) i (record (barrier_lent groups i) { arrivals = [] })) (ended_waits status (barrier_lent groups i).arrivals)
 ended_by s table parts groups i status low high queue =
     let size = length_barriers groups in
     drained (joined s table parts groups) i (barrier_lent groups i).arrivals status (omega (arith, low)) (omega (arith, high, size)) refl queue
 
 -- a barrier was emptied, and its waiters woke: all waits there have ended
-pub all_ended : (s : Scenario) (old new : List ClusterPart) (groups groups' : List GroupPart) (i : ℕ) (status : Status) (wakes : List Wake) → 1 ≤ i → i ≤ 64 → IsQueueOf old groups i → PutsBarrier groups i (record (barrier_lent groups i) { arrivals = [] }) groups' → wakes ≡ ended_waits status (barrier_lent groups i).arrivals → Becomes s (λ k. woken k wakes) old new → BecomesBoth s (λ k. end_at k i status) old groups new groups'
+pub all_ended : (s : Scenario) (old new : List ClusterPart) (groups groups' : List GroupPart) (i : ℕ) (status : Status) (wakes : List Wake) → 1 ≤ i → i ≤ 64 → IsQueueOf old groups (OfBarrier i) → PutsBarrier groups i (record (barrier_lent groups i) { arrivals = [] }) groups' → wakes ≡ ended_waits status (barrier_lent groups i).arrivals → Becomes s (λ k. woken k wakes) old new → BecomesBoth s (λ k. end_at k i status) old groups new groups'
 all_ended s old new groups groups' i status wakes low high queue puts is becomes = record {
   state = λ table laid.
       becomes.state table groups' laid
@@ -204,14 +212,14 @@ was_full true reply is other = refl
 was_full false reply is other = absurd (other (ap (λ (r : Reply). r.status) is))
 
 -- to enter a queue before the timer is armed is the same as after it
-enter_first : (k : Plain) (t : ℕ) (wait : Wait) (ticks : ℕ) → enter (start_limited k t wait ticks) t (Some wait) ≡ start_limited (enter k t (Some wait)) t wait ticks
-enter_first k t wait ticks = by (ticks == 0) where
+pub enter_first : (k : Plain) (by : Caller) (t : ℕ) (wait : Wait) (ticks : ℕ) → enter (start_limited k t wait ticks) by (Some wait) ≡ start_limited (enter k by (Some wait)) t wait ticks
+enter_first k by t wait ticks = at (ticks == 0) where
   armed : Plain → Plain
   armed n = arm (start_wait n t wait) (thread_at n t).home (record { who = OfThread t; due = n.present + ticks })
 
-  by : (b : Bool) → enter (cond b (start_wait k t wait) (armed k)) t (Some wait) ≡ cond b (start_wait (enter k t (Some wait)) t wait) (armed (enter k t (Some wait)))
-  by true = refl
-  by false = refl
+  at : (b : Bool) → enter (cond b (start_wait k t wait) (armed k)) by (Some wait) ≡ cond b (start_wait (enter k by (Some wait)) t wait) (armed (enter k by (Some wait)))
+  at true = refl
+  at false = refl
 
 -- the caller waits at a barrier that isn't full
 pub waits_there : (s : Scenario) (old new : List ClusterPart) (groups groups' : List GroupPart) (t i ticks : ℕ) (id : Target) → object_named (lent_both old groups) t Barrier id ≡ Some i → is_full (barrier_lent groups i) ≡ false → PutsBarrier groups i (waited_at t (barrier_lent groups i)) groups' → ((s : Scenario) → Becomes s (λ k. start_limited k t (AtBarrier i) ticks) old new) → DoesBoth s (λ k. barrier_wait k t id ticks) told.Waiting old groups new groups'
@@ -225,14 +233,14 @@ waits_there s old new groups groups' t i ticks id found full puts becomes =
           let k = joined s table old groups in
           (becomes s).state table groups' laid
           ∙ ap (λ (n : Plain). start_limited n t (AtBarrier i) ticks) (barrier_joined s table old groups groups' i barrier entered)
-          ∙ sym (enter_first k t (AtBarrier i) ticks)
+          ∙ sym (enter_first k (caller_at k t) t (AtBarrier i) ticks)
           ∙ ap (λ d. changed k (wait_by k t ticks i d)) (sym full) ∙ ap (λ o. changed k (wait_row k t ticks o)) (sym found));
       kept = (becomes s).kept;
       framed = puts.kept;
     }
 
 -- or makes it full
-pub waits_full : (s : Scenario) (old new : List ClusterPart) (groups groups' : List GroupPart) (t i ticks : ℕ) (id : Target) (wakes : List Wake) (answer : Answer) → 1 ≤ i → i ≤ 64 → IsQueueOf old groups i → object_named (lent_both old groups) t Barrier id ≡ Some i → is_full (barrier_lent groups i) ≡ true → answer ≡ told.Done Successful 0 None → PutsBarrier groups i (waited_at t (barrier_lent groups i)) groups' → wakes ≡ woken_at (barrier_lent groups i) → ((s : Scenario) → Becomes s (λ k. woken k wakes) old new) → DoesBoth s (λ k. barrier_wait k t id ticks) answer old groups new groups'
+pub waits_full : (s : Scenario) (old new : List ClusterPart) (groups groups' : List GroupPart) (t i ticks : ℕ) (id : Target) (wakes : List Wake) (answer : Answer) → 1 ≤ i → i ≤ 64 → IsQueueOf old groups (OfBarrier i) → object_named (lent_both old groups) t Barrier id ≡ Some i → is_full (barrier_lent groups i) ≡ true → answer ≡ told.Done Successful 0 None → PutsBarrier groups i (waited_at t (barrier_lent groups i)) groups' → wakes ≡ woken_at (barrier_lent groups i) → ((s : Scenario) → Becomes s (λ k. woken k wakes) old new) → DoesBoth s (λ k. barrier_wait k t id ticks) answer old groups new groups'
 waits_full s old new groups groups' t i ticks id wakes answer low high queue found full is puts woke becomes =
     let b = barrier_lent groups i in
     let emptied : PutsBarrier groups i (record b { arrivals = [] }) groups' = subst (λ d. PutsBarrier groups i (cond d (let x : BarrierState = record b { arrivals = [] } in x) (let x : BarrierState = record b { arrivals = b.arrivals ++ t ∷ [] } in x)) groups') full puts in
@@ -294,12 +302,12 @@ put_woken : (k : Plain) (wakes : List Wake) (i : ℕ) (barrier : BarrierState) �
 put_woken k [] i barrier = refl
 put_woken k (wake ∷ wakes) i barrier = put_woken (stop_wait k wake.thread (record { status = wake.status; out = wake.out })) wakes i barrier
 
-named_woken : (k : Plain) (wakes : List Wake) (i : ℕ) → woken (without_object k Barrier i) wakes ≡ without_object (woken k wakes) Barrier i
-named_woken k [] i = refl
-named_woken k (wake ∷ wakes) i = named_woken (stop_wait k wake.thread (record { status = wake.status; out = wake.out })) wakes i
+pub named_woken : (k : Plain) (wakes : List Wake) (class : Class) (i : ℕ) → woken (without_object k class i) wakes ≡ without_object (woken k wakes) class i
+named_woken k [] class i = refl
+named_woken k (wake ∷ wakes) class i = named_woken (stop_wait k wake.thread (record { status = wake.status; out = wake.out })) wakes class i
 
 -- a barrier was removed, its waiters woke, and its name was taken away
-pub removes : (s : Scenario) (old new : List ClusterPart) (groups groups' : List GroupPart) (table table' : Table) (i : ℕ) (wakes : List Wake) → 1 ≤ i → i ≤ 64 → IsQueueOf old groups i → PutsBarrier groups i no_barrier groups' → wakes ≡ ended_waits ObjectWasDeleted (barrier_lent groups i).arrivals → Becomes s (λ k. woken k wakes) old new → ((k : Plain) → with_table k table' ≡ without_object (with_table k table) Barrier i) → BecomesEvery s (λ k. without_barrier k i) old groups table new groups' table'
+pub removes : (s : Scenario) (old new : List ClusterPart) (groups groups' : List GroupPart) (table table' : Table) (i : ℕ) (wakes : List Wake) → 1 ≤ i → i ≤ 64 → IsQueueOf old groups (OfBarrier i) → PutsBarrier groups i no_barrier groups' → wakes ≡ ended_waits ObjectWasDeleted (barrier_lent groups i).arrivals → Becomes s (λ k. woken k wakes) old new → ((k : Plain) → with_table k table' ≡ without_object (with_table k table) Barrier i) → BecomesEvery s (λ k. without_barrier k i) old groups table new groups' table'
 removes s old new groups groups' table table' i wakes low high queue puts woke becomes removed =
     let k = joined s table old groups in
     let emptied : BarrierState = record (barrier_lent groups i) { arrivals = [] } in
@@ -312,7 +320,7 @@ removes s old new groups groups' table table' i wakes low high queue puts woke b
           becomes.state table' groups' laid
           ∙ ap (λ (n : Plain). woken n wakes) (barrier_joined s table' old groups groups' i no_barrier puts)
           ∙ ap (λ (n : Plain). woken n wakes) (removed (put_barrier k i no_barrier))
-          ∙ named_woken (put_barrier k i no_barrier) wakes i
+          ∙ named_woken (put_barrier k i no_barrier) wakes Barrier i
           ∙ ap (λ (n : Plain). without_object n Barrier i) (sym gone);
       laid = λ laid. laid_kept s.clusters old new becomes.kept laid;
       kept = ap (λ (f : Frame). f.stored) becomes.kept;

@@ -1,5 +1,5 @@
 -- What directives do to the parts that are lent, step by step.
-use Rattle.std.proofs.Common.{◌≡◌, ◌≢◌, ℕ, ◌+◌, ◌<◌, List, [], ◌∷◌, ◌++◌, Bool, true, false, cond, ◌==◌, Option, Some, None, length, arith, refl, sym, ap, ◌∙◌, subst}
+use Rattle.std.proofs.Common.{◌≡◌, ◌≢◌, ℕ, ◌+◌, ◌<◌, List, [], ◌∷◌, ◌++◌, Bool, true, false, cond, ◌==◌, ◌||◌, Option, Some, None, length, arith, refl, sym, ap, ◌∙◌, subst}
 use Rattle.std.specs.Prelude.{IsSome}
 use Rattle.std.proofs.lemmas.Bool.{false≢true}
 use Rattle.std.proofs.lemmas.Bool.Decides.{nat_tests}
@@ -22,11 +22,12 @@ use Rattle.rk_model.specs.declared.entry.Answer.{Answer}
 use Rattle.rk_model.specs.declared.entry.Answer.TheVariants as told
 use Rattle.rk_model.specs.Directives.Outcomes.{Outcome, Refused, Gone, Waiting, done, on_found, answer_of, changed}
 use Rattle.rk_model.specs.Directives.Waits.{start_wait, start_limited, begin_limited, stop_wait, end_wait}
+use Rattle.rk_model.specs.Directives.Semaphores.{has_obtained}
 use Rattle.rk_model.specs.Directives.Tasks.{task_named, has_created, task_removed, task_delete, without_task}
 use Rattle.rk_parts.specs.declared.parts.ClusterPart.{ClusterPart}
 use Rattle.rk_parts.specs.declared.parts.GroupPart.{GroupPart}
 use Rattle.rk_parts.specs.declared.parts.AllParts.{AllParts}
-use Rattle.rk_parts.specs.Joined.{joined, lent, present_of, threads_of, thread_lent, periods_of, timers_lent, plain_of}
+use Rattle.rk_parts.specs.Joined.{joined, lent, present_of, threads_of, thread_lent, semaphores_of, periods_of, timers_lent, plain_of}
 use Rattle.rk_parts.specs.Groups.{Leaves}
 use Rattle.rk_model.proofs.IndexLemmas.{nth-with_kept}
 use Rattle.rk_parts.specs.Lent.{number_in, AreLaid, layouts, Frame, frame, Puts, Replaces, PutsTimers, with_timers}
@@ -219,7 +220,7 @@ later old new t ticks s becomes = record { state = becomes.state; kept = becomes
 
 -- the rule, by what was found
 abbrev delete_row : Plain → ℕ → Option ℕ → Outcome
-delete_row k t o = on_found o (λ u. cond (has_created k.periods u) (Refused ResourceInUse) (task_removed k t u))
+delete_row k t o = on_found o (λ u. cond (has_obtained k.semaphores u || has_created k.periods u) (Refused ResourceInUse) (task_removed k t u))
 
 answer_by : (b : Bool) (k : Plain) → cond b (told.Gone Successful) (told.Done Successful 0 None) ≡ answer_of (cond b (Gone Successful k) (done 0 k))
 answer_by true k = refl
@@ -229,8 +230,8 @@ changed_by : (b : Bool) (k next : Plain) → changed k (cond b (Gone Successful 
 changed_by true k next = refl
 changed_by false k next = refl
 
--- a task was deleted, which created no period
-pub deletes : (s : Scenario) (old new : List ClusterPart) (groups groups' : List GroupPart) (table table' : Table) (t u : ℕ) (id : Target) (answer : Answer) → task_named (lent old) t id ≡ Some u → has_created (periods_of groups) u ≡ false → answer ≡ cond (u == t) (told.Gone Successful) (told.Done Successful 0 None) → BecomesEvery s (λ k. without_task k u) old groups table new groups' table' → DoesEvery s (λ k. task_delete k t id) answer old groups table new groups' table'
+-- a task was deleted, which owns no semaphore and created no period
+pub deletes : (s : Scenario) (old new : List ClusterPart) (groups groups' : List GroupPart) (table table' : Table) (t u : ℕ) (id : Target) (answer : Answer) → task_named (lent old) t id ≡ Some u → (has_obtained (semaphores_of groups) u || has_created (periods_of groups) u) ≡ false → answer ≡ cond (u == t) (told.Gone Successful) (told.Done Successful 0 None) → BecomesEvery s (λ k. without_task k u) old groups table new groups' table' → DoesEvery s (λ k. task_delete k t id) answer old groups table new groups' table'
 deletes s old new groups groups' table table' t u id answer found free is becomes =
     let k = joined s table old groups in
     record {
@@ -241,8 +242,8 @@ deletes s old new groups groups' table table' t u id answer found free is become
       framed = becomes.framed;
     }
 
--- and one that created a period isn't
-pub deletes_not : (s : Scenario) (old : List ClusterPart) (groups : List GroupPart) (table : Table) (t u : ℕ) (id : Target) → task_named (lent old) t id ≡ Some u → has_created (periods_of groups) u ≡ true → DoesEvery s (λ k. task_delete k t id) (told.Refused ResourceInUse) old groups table old groups table
+-- and one that owns a semaphore or created a period isn't
+pub deletes_not : (s : Scenario) (old : List ClusterPart) (groups : List GroupPart) (table : Table) (t u : ℕ) (id : Target) → task_named (lent old) t id ≡ Some u → (has_obtained (semaphores_of groups) u || has_created (periods_of groups) u) ≡ true → DoesEvery s (λ k. task_delete k t id) (told.Refused ResourceInUse) old groups table old groups table
 deletes_not s old groups table t u id found created =
     let k = joined s table old groups in
     record {

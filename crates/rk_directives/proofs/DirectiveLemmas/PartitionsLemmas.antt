@@ -42,6 +42,7 @@ pooled k partitions table sound size named =
       scenario = refl;
       present = refl;
       places = refl;
+      locks = refl;
       halls = refl;
       pools = size;
       threads = same.threads;
@@ -49,6 +50,7 @@ pooled k partitions table sound size named =
       timers = same.timers;
       named = named;
       tied = sound.tied;
+      chained = sound.chained;
     }
 
 -- a partition that a caller asks for lives

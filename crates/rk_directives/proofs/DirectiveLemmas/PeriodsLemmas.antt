@@ -21,7 +21,7 @@ use Rattle.rk_model.specs.Scheduling.Timers.{without_timer, arm}
 use Rattle.rk_model.specs.Directives.Objects.{has_begun, object_named, put_names, create_at}
 use Rattle.rk_model.specs.Directives.Outcomes.{Outcome, changed, on_found}
 use Rattle.rk_model.specs.Directives.Periods.{is_awaited, end_of, begun, next_begun, new_period, period_create, period_ident, asked, with_next, begins, period_period, started, with_postponed, stop, cancelled, period_cancel, without_period, period_delete}
-use Rattle.rk_model.specs.Directives.Waits.{start_wait, begin_limited}
+use Rattle.rk_model.specs.Directives.Waits.{caller_at, start_wait, begin_limited}
 use Rattle.rk_model.proofs.BooleanLemmas.{equal_test, same_number}
 use Rattle.rk_model.proofs.IndexLemmas.{nth-with_same, nth-with_other, nth-with_kept}
 use Rattle.rk_parts.specs.NamesAgree.{AreNamed}
@@ -37,6 +37,7 @@ use Rattle.rk_directives.specs.Sound.{IsSound, IsGentleBut, IsGentle, but_none, 
 use Rattle.rk_directives.specs.SoundPeriods.{awaits, dues_of, IsCounted, ArePeriodsSound}
 use Rattle.rk_directives.proofs.ThreadBoundsLemmas.{bounds_at}
 use Rattle.rk_directives.proofs.GentleChangeLemmas.{gentle_same, gentle_fewer, gentle_start, gentle_enter}
+use Rattle.rk_directives.proofs.WaitChainLemmas.{joins_unowned}
 use Rattle.rk_directives.proofs.NamesAgreeLemmas.{first_free, named_begun_again, named_timed, named_dropped}
 use Rattle.rk_directives.proofs.OutcomeLemmas.{op_of, IsFair, none_awaits, stays_same, stays_as, fair_refused, fair_done, fair_waiting, fair_found, fair_if, fair_create, fair_ident}
 use Rattle.rk_directives.proofs.PeriodSoundLemmas.{fits_call, times-dues, counted_new, counted_next, counted_cancelled, armed_here, armed_other, cancelled_here, cancelled_other, threads_armed, threads_cancelled, either, none_sound, IsAlike, same_thread, one_changed, live_within}
@@ -52,6 +53,7 @@ gentle_periods k m but periods table gentle named = record {
   scenario = gentle.scenario;
   present = gentle.present;
   places = gentle.places;
+  locks = gentle.locks;
   halls = gentle.halls;
   pools = gentle.pools;
   threads = gentle.threads;
@@ -59,6 +61,7 @@ gentle_periods k m but periods table gentle named = record {
   timers = gentle.timers;
   named = named;
   tied = gentle.tied;
+  chained = gentle.chained;
 }
 
 -- to arm the timer of a period
@@ -193,7 +196,7 @@ waits_gentle k t i length caller lives =
     (record { home = b.home; line = b.line; working = b.working; calling = λ _. caller.line; apart = λ w. absurd (omega (arith, w, acts.works_not)); acts = b.acts; idle = λ idle. absurd (false≢true (sym idle ∙ ap is_started acts.started)); computed = b.computed }) in
     let here = nth-with_same no_thread thread k.threads t acts.low (omega (arith, acts.high, acts.sound.places)) in
     let is : (thread_at (start_wait m t (ForPeriod i)) t).wait ≡ Some (ForPeriod i) = ap (λ (x : Thread). x.wait) here in
-    gentle_enter k (start_wait m t (ForPeriod i)) t (ForPeriod i) begun is tt (none_awaits k t acts) (λ asleep. absurd (false≢true (sym (ap is_asleep is) ∙ asleep)))
+    gentle_enter k (start_wait m t (ForPeriod i)) (caller_at m t) (ForPeriod i) begun is tt (none_awaits k t acts) (λ asleep. absurd (false≢true (sym (ap is_asleep is) ∙ asleep))) (joins_unowned m.semaphores (start_wait m t (ForPeriod i)).threads t (Some (ForPeriod i)) refl)
 
 begins_fair : (k : Plain) (t i length : ℕ) (id : Target) (phase : Phase) → IsCaller k t → (period_at k i).live ≡ true → op_of k t ≡ Some (PeriodPeriod id length) → eqb length 0 ≡ false → IsFair k t (begins k t i length phase)
 begins_fair k t i length id Inactive caller lives op some = fair_done k t _ _ _ _ refl (stays_as k _ t caller (gentle_arm_period k (with_next k t i length) but_none (thread_at k t).home i (k.present + length) (next_gentle k t i length caller lives)) refl)

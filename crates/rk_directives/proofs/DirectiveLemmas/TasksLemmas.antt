@@ -1,5 +1,5 @@
 -- The directives of the task manager are fair.
-use Rattle.std.proofs.Common.{◌≡◌, ◌≢◌, ℕ, zero, suc, ◌<◌, ◌≤◌, ⊎_elim, ◌&&◌, nat_lt, List, ◌∷◌, Bool, true, false, cond, eqb, Option, None, Some, length, arith, refl, sym, ◌∙◌, ap}
+use Rattle.std.proofs.Common.{◌≡◌, ◌≢◌, ℕ, zero, suc, ◌<◌, ◌≤◌, ⊎_elim, ◌&&◌, ◌||◌, nat_lt, List, [], ◌∷◌, Bool, true, false, cond, eqb, Option, None, Some, length, arith, refl, sym, ◌∙◌, ap}
 use Rattle.std.proofs.lemmas.List.{get_or_past}
 use Rattle.std.proofs.lemmas.Bool.{cases_lt, false≢true}
 use Rattle.rk_model.specs.declared.ids.Class.TheVariants.{Task}
@@ -11,7 +11,8 @@ use Rattle.rk_model.specs.declared.state.Thread.{Thread}
 use Rattle.rk_model.specs.declared.state.Wait.TheVariants.{ForTime}
 use Rattle.rk_model.specs.declared.state.Armer.TheVariants.{Thread as OfThread}
 use Rattle.rk_model.specs.Names.{with_names, taken, given_back}
-use Rattle.rk_model.specs.State.{Plain, objects_of, no_thread, thread_at, put_thread}
+use Rattle.rk_model.specs.State.{Plain, SemaphoreState, objects_of, no_thread, no_semaphore, thread_at, put_thread}
+use Rattle.rk_model.specs.Directives.Semaphores.{is_thread, owns, has_obtained}
 use Rattle.rk_model.specs.Scheduling.Timers.{cancel}
 use Rattle.rk_model.specs.Scheduling.Priorities.{is_started}
 use Rattle.rk_model.specs.Lists.{nth}
@@ -26,10 +27,11 @@ use Rattle.rk_model.proofs.IndexLemmas.{nth-with_other, length-with_nth, All-wit
 use Rattle.rk_directives.proofs.ThreadBoundsLemmas.{bounds_at, none_bounds, blank_bounds, arrived_bounds}
 use Rattle.rk_directives.proofs.TimerLemmas.{timed_sound, timed_kept, keeps_same}
 use Rattle.rk_directives.proofs.NamesAgreeLemmas.{first_free, named_made, named_removed}
-use Rattle.rk_directives.proofs.GentleChangeLemmas.{gentle_same, gentle_but, gentle_put, gentle_leave, gentle_unarmed, gentle_cancel, cancelled, Stays, stays_put, stays_apart}
+use Rattle.rk_directives.proofs.GentleChangeLemmas.{gentle_same, gentle_but, gentle_put, gentle_leave, gentle_idle, gentle_cancel, cancelled, Stays, stays_put, stays_apart}
 use Rattle.rk_directives.proofs.TieLemmas.{tied_but, tied_idle, left_gone}
+use Rattle.rk_directives.proofs.WaitChainLemmas.{chained_fewer, chained_idle, owners_left, joins_unowned}
 use Rattle.rk_directives.proofs.OutcomeLemmas.{IsFair, gentle_limited, stays_same, fair_refused, fair_done, fair_waiting, fair_gone, fair_found, fair_create, fair_ident, fair_if}
-use Rattle.rk_model.proofs.BooleanLemmas.{and_back, equal_test}
+use Rattle.rk_model.proofs.BooleanLemmas.{and_back, equal_test, or_front, or_back}
 
 lives_by : (k : Plain) (v u : ℕ) (b : Bool) → has_begun (thread_at k v).life ≡ b → cond b (Some v) None ≡ Some u → has_begun (thread_at k u).life ≡ true
 lives_by k v u true e is = let same : v ≡ u = cc in ap (λ w. has_begun (thread_at k w).life) (sym same) ∙ e
@@ -77,6 +79,7 @@ made_task_gentle k t index free name prio sound is =
       scenario = refl;
       present = refl;
       places = length-with_nth made k.threads index;
+      locks = refl;
       halls = refl;
       pools = refl;
       threads = All-with_nth (IsInBounds k.scenario (length k.clusters) k.present) made k.threads index (blank_bounds k.scenario (length k.clusters) k.present Dormant (thread_at k t).home prio (bounds_at k t sound).home) sound.threads;
@@ -85,7 +88,8 @@ made_task_gentle k t index free name prio sound is =
           (λ d u is. ap (λ (x : Thread). (eqb x.home d) && may_time_out x.wait) (nth-with_other no_thread made k.threads index u (λ e. false≢true (sym waits_not ∙ ap (λ v. may_time_out (thread_at k v).wait) (sym e) ∙ and_back (eqb (thread_at k u).home d) (may_time_out (thread_at k u).wait) is))) ∙ is)
           (timed_sound k 0 k.clusters sound.clusters);
       named = named_made k.table (objects_of k) index free name made sound.named sound.places is refl;
-      tied = tied_idle k.barriers k.threads k.clusters index made f.low (omega (arith, f.high, sound.places)) refl (λ object. sound.tied.queued index refl object ∙ ap (λ (x : Thread). cond (is_for (object_of_wait x.wait) object) 1 0) blank) (tied_but k.barriers k.threads k.clusters index sound.tied);
+      tied = tied_idle k.barriers k.semaphores k.threads k.clusters (but_one index) but_none index made (equal_test index index refl) (λ u _ other. other) f.low (omega (arith, f.high, sound.places)) refl (λ object. sound.tied.queued index refl object ∙ ap (λ (x : Thread). cond (is_for (object_of_wait x.wait) object) 1 0) blank) (tied_but k.barriers k.semaphores k.threads k.clusters index sound.tied);
+      chained = chained_idle k.semaphores k.threads (but_one index) but_none index made (equal_test index index refl) (λ u _ other. other) f.low (omega (arith, f.high, sound.places)) refl (λ _ _. refl) (chained_fewer k.semaphores k.threads (but_one index) but_none (λ u apart. refl) sound.chained);
     }
 
 made_task_stays : (k : Plain) (t index : ℕ) (free : List ℕ) (name prio : ℕ) → IsCaller k t → k.table.tasks.free ≡ index ∷ free → Stays k (made_task k t index free name prio) t
@@ -141,23 +145,37 @@ lives_within threads (suc i) live =
     ⊎_elim (λ w. let low : 0 < suc i = omega arith in let high : suc i ≤ length threads = omega (arith, w) in (low, high))
     (λ w. absurd (false≢true (rw (get_or_past threads i no_thread w) at live))) (cases_lt i (length threads))
 
--- a live task is deleted
-without_task_gentle : (k : Plain) (u : ℕ) → IsSound k → has_begun (thread_at k u).life ≡ true → IsGentle k (without_task k u)
-without_task_gentle k u sound live =
+-- who owns a semaphore is found among the owners
+obtained_one : (semaphores : List SemaphoreState) (i u : ℕ) → (nth no_semaphore semaphores i).owner ≡ Some u → has_obtained semaphores u ≡ true
+obtained_one semaphores zero u owner = let no : ⊥ = cc in absurd no
+obtained_one [] (suc i) u owner = let no : ⊥ = cc in absurd no
+obtained_one (sem ∷ semaphores) (suc zero) u owner = let same : owns u sem ≡ true = ap (is_thread u) owner ∙ equal_test u u refl in or_front (has_obtained semaphores u) same
+obtained_one (sem ∷ semaphores) (suc (suc i)) u owner = or_back (owns u sem) (obtained_one semaphores (suc i) u owner)
+
+-- a live task is deleted that owns no semaphore
+without_task_gentle : (k : Plain) (u : ℕ) → IsSound k → has_begun (thread_at k u).life ≡ true → has_obtained k.semaphores u ≡ false → IsGentle k (without_task k u)
+without_task_gentle k u sound live free =
     let h = (thread_at k u).home in
+    let awaited = object_of_wait (thread_at k u).wait in
     let stood = sound.tied.queued u refl in
     let left = gentle_leave k k u (gentle_but k k u (gentle_same k sound)) stood in
     let w = lives_within k.threads u live in
-    gentle_unarmed k (cancel (leave k u) h (OfThread u)) u no_thread (with_names Task (given_back k.table.tasks u) k.table) (gentle_cancel k (leave k u) h u left) w.0 w.1 (cancelled k (leave k u) (but_one u) u left) refl
-    (left_gone k.barriers u (object_of_wait (thread_at k u).wait) stood)
+    let among = equal_test u u refl in
+    gentle_idle k (cancel (leave k u) h (OfThread u)) (but_one u) but_none u no_thread (with_names Task (given_back k.table.tasks u) k.table) (gentle_cancel k (leave k u) (but_one u) h u among left) among (λ v _ other. other) w.0 w.1 (cancelled k (leave k u) (but_one u) u left) refl
+    (left_gone k.barriers k.semaphores u awaited stood)
+    (λ i owner. absurd (false≢true (sym free ∙ obtained_one k.semaphores i u (sym (owners_left k.semaphores u awaited i) ∙ owner))))
     (named_removed k.table (objects_of (leave k u)) u left.named sound.places live)
     (none_bounds k.scenario (length k.clusters) k.present sound.some_cluster)
 
+neither_front : (a b : Bool) → (a || b) ≡ false → a ≡ false
+neither_front true b e = e
+neither_front false b e = refl
+
 pub task_delete_fair : (k : Plain) (t : ℕ) (id : Target) → IsCaller k t → IsFair k t (task_delete k t id)
-task_delete_fair k t id caller = fair_found k t (task_named k t id) _ (λ u is.
-    let gentle = without_task_gentle k u caller.acts.sound (found_lives k t id u caller is) in
-    fair_if k t (has_created k.periods u) _ _ (λ _. fair_refused k t _) (λ _. fair_if k t (eqb u t) _ _ (λ _. fair_gone k t _ _ refl gentle)
-    (λ e. fair_done k t _ _ _ _ refl (stays_apart k k (without_task k u) t u no_thread (stays_same k t caller) (λ q. false≢true (sym e ∙ equal_test u t (sym q))) refl gentle))))
+task_delete_fair k t id caller = fair_found k t (task_named k t id) _ (λ u is. fair_if k t (has_obtained k.semaphores u || has_created k.periods u) _ _ (λ _. fair_refused k t _) (λ free.
+    (let gentle = without_task_gentle k u caller.acts.sound (found_lives k t id u caller is) (neither_front (has_obtained k.semaphores u) (has_created k.periods u) free) in
+    fair_if k t (eqb u t) _ _ (λ _. fair_gone k t _ _ refl gentle)
+    (λ e. fair_done k t _ _ _ _ refl (stays_apart k k (without_task k u) t u no_thread (stays_same k t caller) (λ q. false≢true (sym e ∙ equal_test u t (sym q))) refl gentle)))))
 
 pub task_exit_fair : (k : Plain) (t : ℕ) → IsActing k t → (thread_at k t).finished ≡ None → IsFair k t (task_exit k t)
 task_exit_fair k t acts returns_not =
@@ -166,4 +184,4 @@ task_exit_fair k t acts returns_not =
     fair_gone k t _ _ refl (gentle_put k k but_none t (record (thread_at k t) { life = Ended }) (gentle_same k acts.sound) refl refl (ap has_begun acts.started) refl (record { home = b.home; line = b.line; working = b.working; calling = b.calling; apart = b.apart; acts = b.acts; idle = λ _. free; computed = b.computed }))
 
 pub task_wake_after_fair : (k : Plain) (t ticks : ℕ) → IsCaller k t → IsFair k t (task_wake_after k t ticks)
-task_wake_after_fair k t ticks caller = fair_if k t (eqb ticks 0) _ _ (λ _. fair_done k t _ _ _ _ refl (stays_same k t caller)) (λ some. fair_waiting k t _ (gentle_limited k t ForTime ticks caller tt refl (λ zero. absurd (false≢true (sym some ∙ zero)))))
+task_wake_after_fair k t ticks caller = fair_if k t (eqb ticks 0) _ _ (λ _. fair_done k t _ _ _ _ refl (stays_same k t caller)) (λ some. fair_waiting k t _ (gentle_limited k t ForTime ticks caller tt refl (λ zero. absurd (false≢true (sym some ∙ zero))) (joins_unowned k.semaphores k.threads t (Some ForTime) refl)))

@@ -4,7 +4,7 @@ use Rattle.rk_model.specs.declared.scenario.Target.{Target}
 use Rattle.rk_model.specs.declared.scenario.Wish.{Wish}
 use Rattle.rk_model.specs.declared.scenario.Wish.TheVariants.{NoWait, Limit}
 use Rattle.rk_model.specs.declared.state.Wait.{Wait}
-use Rattle.rk_model.specs.declared.state.Wait.TheVariants.{ForTime, ForEvents, AtBarrier, ForPeriod}
+use Rattle.rk_model.specs.declared.state.Wait.TheVariants.{ForTime, ForEvents, AtBarrier, ForPeriod, ForSemaphore}
 use Rattle.rk_model.specs.declared.status.Status.TheVariants.{Successful, Unsatisfied}
 use Rattle.rk_model.specs.State.{Plain, thread_at, put_thread}
 use Rattle.rk_model.specs.Directives.Outcomes.{Outcome, Refused, Waiting, done, on_found}
@@ -40,6 +40,7 @@ seized_by pending (Some ForTime) = None
 seized_by pending (Some (ForEvents set all)) = seized pending set all
 seized_by pending (Some (AtBarrier i)) = None
 seized_by pending (Some (ForPeriod i)) = None
+seized_by pending (Some (ForSemaphore i)) = None
 
 -- the state in which events were sent to a task, which has these pending then and waits so: it seizes those that it waits for
 abbrev pub sent : Plain → ℕ → ℕ → Option Wait → Plain

@@ -1,7 +1,7 @@
 -- Objects by their class, index and name, and what the directives that make and name them share.
 use Rattle.std.specs.Prelude.{ℕ, List, [], ◌∷◌, Bool, true, false, Option, Some, None, ◌==◌, if◌then◌else◌}
 use Rattle.rk_model.specs.declared.ids.Class.{Class}
-use Rattle.rk_model.specs.declared.ids.Class.TheVariants.{Task, Barrier, Partition, Period}
+use Rattle.rk_model.specs.declared.ids.Class.TheVariants.{Task, Semaphore, Barrier, Partition, Period}
 use Rattle.rk_model.specs.declared.state.Life.{Life}
 use Rattle.rk_model.specs.declared.state.Life.TheVariants.{Absent, Dormant, Started, Ended}
 use Rattle.rk_model.specs.Lists.{nth}
@@ -11,7 +11,7 @@ use Rattle.rk_model.specs.Ids.{id_of, index_in}
 use Rattle.rk_model.specs.Names.{Names, names_of, with_names, taken, given_back, least_named}
 use Rattle.rk_model.specs.declared.scenario.Target.{Target}
 use Rattle.rk_model.specs.declared.scenario.Target.TheVariants.{Var, Own, Given}
-use Rattle.rk_model.specs.State.{Plain, Objects, objects_of, no_thread, no_barrier, no_partition, no_period}
+use Rattle.rk_model.specs.State.{Plain, Objects, objects_of, no_thread, no_semaphore, no_barrier, no_partition, no_period}
 use Rattle.rk_model.specs.Directives.Outcomes.{Outcome, Refused, done, var_at}
 
 -- the names of the objects of a class
@@ -29,13 +29,13 @@ has_begun Dormant = true
 has_begun Started = true
 has_begun Ended = true
 
--- Whether the object of a class and an index has begun: it was created and not deleted. So far there are tasks, barriers, partitions and periods.
+-- Whether the object of a class and an index has begun: it was created and not deleted.
 abbrev pub begun_in : Objects → Class → ℕ → Bool
 begun_in objects Task index = has_begun (nth no_thread objects.threads index).life
+begun_in objects Semaphore index = (nth no_semaphore objects.semaphores index).live
 begun_in objects Barrier index = (nth no_barrier objects.barriers index).live
 begun_in objects Partition index = (nth no_partition objects.partitions index).live
 begun_in objects Period index = (nth no_period objects.periods index).live
-begun_in objects class index = false
 
 -- Whether an object of a class and an index lives: whether it has begun. Then, and only then, the index has a name, which is a law.
 abbrev pub is_live : Plain → Class → ℕ → Bool

@@ -1,6 +1,8 @@
--- What the directives of the semaphore manager do to one semaphore.
-use Rattle.std.specs.Prelude.{ℕ, ◌+◌, ◌-◌, ◌==◌, nat_lt, Bool, true, false, not, ◌&&◌, ◌||◌, Option, Some, None, is_some, if◌then◌else◌}
+-- The directives of the semaphore manager: what they do to one semaphore, and the rules.
+use Rattle.std.specs.Prelude.{ℕ, ◌+◌, ◌-◌, ◌==◌, nat_lt, List, [], ◌∷◌, Bool, true, false, not, ◌&&◌, ◌||◌, Option, Some, None, is_some, length, map, if◌then◌else◌}
+use Rattle.rk_model.specs.declared.ids.Class.TheVariants.{Semaphore}
 use Rattle.rk_model.specs.declared.limits.TheConstants.{LEAST_URGENT, MOST_COUNT, MOST_NESTING}
+use Rattle.rk_model.specs.declared.scenario.Target.{Target}
 use Rattle.rk_model.specs.declared.scenario.Wish.{Wish}
 use Rattle.rk_model.specs.declared.scenario.Wish.TheVariants.{NoWait, Limit}
 use Rattle.rk_model.specs.declared.semaphore.Protocol.{Protocol}
@@ -9,10 +11,19 @@ use Rattle.rk_model.specs.declared.semaphore.SemKind.{SemKind}
 use Rattle.rk_model.specs.declared.semaphore.SemKind.TheVariants.{Counting, Simple, Binary}
 use Rattle.rk_model.specs.declared.semaphore.SemSpec.{SemSpec}
 use Rattle.rk_model.specs.declared.status.Status.{Status}
-use Rattle.rk_model.specs.declared.status.Status.TheVariants.{Successful, InvalidNumber, NotDefined, ResourceInUse, Unsatisfied, IncorrectState, InvalidPriority, NotOwnerOfResource, Waits}
+use Rattle.rk_model.specs.declared.status.Status.TheVariants.{Successful, InvalidNumber, NotDefined, ResourceInUse, Unsatisfied, IncorrectState, InvalidPriority, NotOwnerOfResource, ObjectWasDeleted, Waits}
 use Rattle.rk_model.specs.declared.waiting.Caller.{Caller}
-use Rattle.rk_model.specs.State.{SemaphoreState, no_semaphore}
-use Rattle.rk_model.specs.Queues.{empty, waiter_of, entered, left_by, reordered, first_of, served_by}
+use Rattle.rk_model.specs.declared.state.Wait.TheVariants.{ForSemaphore}
+use Rattle.rk_model.specs.declared.waiting.Order.{Order}
+use Rattle.rk_model.specs.declared.waiting.Order.TheVariants.{Fifo, Priority}
+use Rattle.rk_model.specs.declared.waiting.Waiter.{Waiter}
+use Rattle.rk_model.specs.State.{Plain, SemaphoreState, no_semaphore, semaphore_at, put_semaphore}
+use Rattle.rk_model.specs.Queues.{Queue, threads, empty, reordered, first_of, served_by}
+use Rattle.rk_model.specs.Scheduling.Chains.{reaches, waits_on}
+use Rattle.rk_model.specs.Scheduling.Priorities.{home_prio}
+use Rattle.rk_model.specs.Directives.Objects.{object_named, create, ident, without_object}
+use Rattle.rk_model.specs.Directives.Outcomes.{Outcome, Refused, Waiting, done, on_found}
+use Rattle.rk_model.specs.Directives.Waits.{with_waiter, begin_limited, stop_wait, stop_each, bare}
 
 -- ---- kinds and protocols
 
@@ -138,12 +149,12 @@ owns t sem = is_thread t sem.owner
 abbrev pub is_free : SemaphoreState → Bool
 is_free sem = if is_binary sem.kind then not (is_owned sem) else nat_lt 0 sem.count
 
--- What an obtain comes to: the caller owns the semaphore and obtains it once more, it takes a free one, it is refused with a status, or it waits.
+-- What an obtain comes to: the caller owns the semaphore and obtains it once more, it takes a free one, it is refused with a status, or it waits with a limit of so many ticks.
 pub data Obtaining : Type 0 where
   Nests : Obtaining
   Takes : Obtaining
   NotObtained : Status → Obtaining
-  Enters : Obtaining
+  Enters : ℕ → Obtaining
 
 -- the owner obtains it once more, unless the nesting is as great as it can be
 abbrev pub nesting_by : SemaphoreState → Obtaining
@@ -152,7 +163,7 @@ nesting_by sem = if sem.nesting == MOST_NESTING then NotObtained Unsatisfied els
 -- it isn't free: UNSATISFIED with the wish `nowait`; INCORRECT_STATE where it has an owner and the chain of the owner reaches the caller; else the caller waits
 abbrev pub obtaining_later : Wish → Bool → SemaphoreState → Obtaining
 obtaining_later NoWait closes sem = NotObtained Unsatisfied
-obtaining_later (Limit ticks) closes sem = if is_owned sem && closes then NotObtained IncorrectState else Enters
+obtaining_later (Limit ticks) closes sem = if is_owned sem && closes then NotObtained IncorrectState else Enters ticks
 
 -- rtems_semaphore_obtain, where `closes` says whether the chain of the owner reaches the caller: where the caller owns it, the nesting rises by one; where it is free, the caller takes it; UNSATISFIED where the wish is `nowait`; INCORRECT_STATE where it has an owner and `closes` holds; else the caller waits. A nesting of 18446744073709551615 can't rise: UNSATISFIED.
 abbrev pub obtaining : ℕ → Wish → Bool → SemaphoreState → Obtaining
@@ -169,23 +180,19 @@ nested sem = record sem { nesting = sem.nesting + 1 }
 abbrev pub taken : ℕ → SemaphoreState → SemaphoreState
 taken t sem = if is_binary sem.kind then owned_by t sem else record sem { count = sem.count - 1 }
 
--- one more task waits for it
-abbrev pub with_waiter : Caller → SemaphoreState → SemaphoreState
-with_waiter by sem = record sem { queue = entered (waiter_of by) sem.queue }
-
 -- the semaphore after an obtain that came to this
 abbrev pub after_obtaining : Obtaining → Caller → SemaphoreState → SemaphoreState
 after_obtaining Nests by sem = nested sem
 after_obtaining Takes by sem = taken by.thread sem
 after_obtaining (NotObtained status) by sem = sem
-after_obtaining Enters by sem = with_waiter by sem
+after_obtaining (Enters ticks) by sem = with_waiter by sem
 
 -- the status of it
 abbrev pub status_of_obtaining : Obtaining → Status
 status_of_obtaining Nests = Successful
 status_of_obtaining Takes = Successful
 status_of_obtaining (NotObtained status) = status
-status_of_obtaining Enters = Waits
+status_of_obtaining (Enters ticks) = Waits
 
 -- ---- sem.release
 
@@ -269,12 +276,92 @@ status_of_deleting sem = if is_owned sem then ResourceInUse else Successful
 abbrev pub after_deleting : SemaphoreState → SemaphoreState
 after_deleting sem = if is_owned sem then sem else no_semaphore
 
--- ---- waits that end otherwise
-
--- a thread waits for it no longer, without having been served
-abbrev pub without_waiter : ℕ → SemaphoreState → SemaphoreState
-without_waiter u sem = record sem { queue = left_by u sem.queue }
+-- ---- the priorities of those that wait
 
 -- a thread waits for it with another priority
 abbrev pub with_prio_of : ℕ → ℕ → SemaphoreState → SemaphoreState
 with_prio_of u prio sem = record sem { queue = reordered u prio sem.queue }
+
+-- a waiter with the priority that its thread has in its home
+abbrev pub with_present_prio : Plain → Waiter → Waiter
+with_present_prio k waiter = record waiter { prio = home_prio k waiter.thread }
+
+-- A queue that serves by priority, brought up to date: each waiter has the priority that its thread has in its home.
+abbrev pub up_to_date_by : Plain → Order → Queue → Queue
+up_to_date_by k Fifo queue = queue
+up_to_date_by k Priority queue = record queue { arrivals = map (with_present_prio k) queue.arrivals }
+
+-- the semaphore whose queue is up to date
+abbrev pub up_to_date : Plain → SemaphoreState → SemaphoreState
+up_to_date k sem = record sem { queue = up_to_date_by k sem.queue.order sem.queue }
+
+-- ---- the rules
+
+-- why a semaphore can't be created so far: its protocol isn't none, which is the only one that is built, or one of the conditions of `judged` holds
+abbrev pub create_refusal : SemSpec → ℕ → Option Status
+create_refusal spec prio = if has_protocol spec.protocol then Some NotDefined else spec_refusal spec prio
+
+-- sem.create (rtems_semaphore_create): INVALID_NAME where the name is 0; NOT_DEFINED where the protocol isn't none, which no text says so far; INVALID_NUMBER where the kind isn't counting and the count is above 1; TOO_MANY where 64 semaphores live; else a semaphore for which none waits, and which the caller owns where it is a binary one with count 0. Out: its id.
+abbrev pub semaphore_create : Plain → ℕ → ℕ → SemSpec → Outcome
+semaphore_create k t name spec =
+    create k Semaphore name (create_refusal spec (home_prio k t)) (λ index next. put_semaphore next index (new_semaphore spec t))
+
+-- sem.ident (rtems_semaphore_ident): INVALID_NAME where no live semaphore has the name. Out: the id of the live semaphore of least index that has it.
+abbrev pub semaphore_ident : Plain → ℕ → Outcome
+semaphore_ident k name = ident k Semaphore name
+
+-- whether the chain of a semaphore's owner, if it has one, reaches a thread
+abbrev pub reaches_from : Plain → Option ℕ → ℕ → Bool
+reaches_from k None t = false
+reaches_from k (Some owner) t = reaches (waits_on k) (length k.threads) owner t
+
+-- a caller has found a semaphore, and its obtain comes to this
+abbrev pub obtained_at : Plain → ℕ → ℕ → Obtaining → Outcome
+obtained_at k t i Nests = done 0 (put_semaphore k i (nested (semaphore_at k i)))
+obtained_at k t i Takes = done 0 (put_semaphore k i (taken t (semaphore_at k i)))
+obtained_at k t i (NotObtained status) = Refused status
+obtained_at k t i (Enters ticks) = Waiting (begin_limited k t (ForSemaphore i) ticks)
+
+-- sem.obtain (rtems_semaphore_obtain): INVALID_ID where the semaphore is unknown; where the caller owns it, its nesting rises by one; where it is free, the caller takes it; UNSATISFIED with the wish `nowait`; INCORRECT_STATE where it has an owner whose chain reaches the caller; else the caller waits with the wish as its limit.
+abbrev pub semaphore_obtain : Plain → ℕ → Target → Wish → Outcome
+semaphore_obtain k t id wish =
+    on_found (object_named k t Semaphore id) (λ i. obtained_at k t i (obtaining t wish (reaches_from k (semaphore_at k i).owner t) (semaphore_at k i)))
+
+-- a semaphore has served a thread, which waits no longer: its wait ends with SUCCESSFUL
+abbrev pub served_at : Plain → ℕ → ℕ → Plain
+served_at k i u = stop_wait (put_semaphore k i (handed_to u (up_to_date k (semaphore_at k i)))) u (bare Successful)
+
+-- a caller has found a semaphore, and its release comes to this
+abbrev pub released_at : Plain → ℕ → Releasing → Outcome
+released_at k i (NotReleased status) = Refused status
+released_at k i Unnests = done 0 (put_semaphore k i (unnested (semaphore_at k i)))
+released_at k i (Serves u) = done 0 (served_at k i u)
+released_at k i Frees = done 0 (put_semaphore k i (freed (semaphore_at k i)))
+
+-- sem.release (rtems_semaphore_release): INVALID_ID where the semaphore is unknown; NOT_OWNER_OF_RESOURCE where it is binary and the caller doesn't own it; where it is binary and the nesting is above 1, the nesting falls by one; where there is a waiter, the one that the queue serves next by the present priorities leaves it, and its wait ends with SUCCESSFUL; UNSATISFIED where it is counting and its count is 4294967295; else a counting one's count rises by one, a simple one's becomes 1, and a binary one has no owner.
+abbrev pub semaphore_release : Plain → ℕ → Target → Outcome
+semaphore_release k t id =
+    on_found (object_named k t Semaphore id) (λ i. released_at k i (releasing t (up_to_date k (semaphore_at k i))))
+
+-- the state in which another semaphore stands at an index, for which none waits, and the waits for the one before it have ended with a status
+abbrev pub emptied_at : Plain → ℕ → SemaphoreState → Status → Plain
+emptied_at k i sem status = stop_each (put_semaphore k i sem) (threads (semaphore_at k i).queue.arrivals) (bare status)
+
+-- sem.flush (rtems_semaphore_flush): INVALID_ID where the semaphore is unknown; else all its waits end with UNSATISFIED.
+abbrev pub semaphore_flush : Plain → ℕ → Target → Outcome
+semaphore_flush k t id =
+    on_found (object_named k t Semaphore id) (λ i. done 0 (emptied_at k i (flushed (semaphore_at k i)) Unsatisfied))
+
+-- the state in which a semaphore lives no longer: its waits have ended with OBJECT_WAS_DELETED, and its index is free
+abbrev pub without_semaphore : Plain → ℕ → Plain
+without_semaphore k i = without_object (emptied_at k i no_semaphore ObjectWasDeleted) Semaphore i
+
+-- sem.delete (rtems_semaphore_delete): INVALID_ID where the semaphore is unknown; RESOURCE_IN_USE where it has an owner; else its waits end with OBJECT_WAS_DELETED and it lives no longer.
+abbrev pub semaphore_delete : Plain → ℕ → Target → Outcome
+semaphore_delete k t id =
+    on_found (object_named k t Semaphore id) (λ i. if is_owned (semaphore_at k i) then Refused ResourceInUse else done 0 (without_semaphore k i))
+
+-- whether a thread owns one of these semaphores
+abbrev pub has_obtained : List SemaphoreState → ℕ → Bool
+has_obtained [] t = false
+has_obtained (sem ∷ semaphores) t = owns t sem || has_obtained semaphores t

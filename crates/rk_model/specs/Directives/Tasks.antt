@@ -16,6 +16,7 @@ use Rattle.rk_model.specs.Scheduling.Timers.{cancel}
 use Rattle.rk_model.specs.Directives.Objects.{object_of, create, ident, without_object}
 use Rattle.rk_model.specs.Scheduling.Priorities.{home_prio}
 use Rattle.rk_model.specs.Directives.Outcomes.{Outcome, Refused, Done, Waiting, Gone, done, on_found, arrived, var_at}
+use Rattle.rk_model.specs.Directives.Semaphores.{has_obtained}
 use Rattle.rk_model.specs.Directives.Waits.{begin_limited, leave}
 
 -- the task that a caller asks for by these bits: itself by 0, and else the live task whose id they are
@@ -100,10 +101,10 @@ has_created (period ∷ periods) u = (period.live && (period.creator == u)) || h
 abbrev pub task_removed : Plain → ℕ → ℕ → Outcome
 task_removed k t u = if u == t then Gone Successful (without_task k u) else done 0 (without_task k u)
 
--- task.delete (rtems_task_delete): INVALID_ID where the task is unknown; RESOURCE_IN_USE where it created a period that lives; else it leaves its queue, its timer is cancelled and it lives no longer. A caller that deletes itself has no next line.
+-- task.delete (rtems_task_delete): INVALID_ID where the task is unknown; RESOURCE_IN_USE where it owns a semaphore or created a period that lives; else it leaves its queue, its timer is cancelled and it lives no longer. A caller that deletes itself has no next line.
 abbrev pub task_delete : Plain → ℕ → Target → Outcome
 task_delete k t id =
-    on_found (task_named k t id) (λ u. if has_created k.periods u then Refused ResourceInUse else task_removed k t u)
+    on_found (task_named k t id) (λ u. if has_obtained k.semaphores u || has_created k.periods u then Refused ResourceInUse else task_removed k t u)
 
 -- task.exit (rtems_task_exit): the task is ended, and stays at its place.
 abbrev pub task_exit : Plain → ℕ → Outcome

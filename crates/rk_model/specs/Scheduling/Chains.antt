@@ -1,6 +1,9 @@
--- Chains of waits: a thread, the one on which it waits, and so on, by any function that gives each thread the next, or none.
+-- Chains of waits: a thread, the one on which it waits, and so on. A chain goes by any function that gives each thread the next, or none.
 use Rattle.std.specs.Prelude.{ℕ, zero, suc, ◌≡◌, List, [], ◌∷◌, Bool, true, false, Option, Some, None}
-use Rattle.rk_model.specs.Lists.{has}
+use Rattle.rk_model.specs.declared.state.Wait.{Wait}
+use Rattle.rk_model.specs.declared.state.Wait.TheVariants.{ForTime, ForEvents, AtBarrier, ForPeriod, ForSemaphore}
+use Rattle.rk_model.specs.Lists.{has, nth}
+use Rattle.rk_model.specs.State.{Plain, SemaphoreState, no_semaphore, thread_at}
 
 -- what follows a thread in its chain: the rest from the thread to which it steps, or nothing
 abbrev pub chain_on : (ℕ → List ℕ) → Option ℕ → List ℕ
@@ -39,3 +42,16 @@ reaches step n thread other = has (chain step n thread) other
 -- The chain of a thread ends: it does within some number of threads.
 abbrev pub Ends : (ℕ → Option ℕ) → ℕ → Type 0
 Ends step thread = (n : ℕ) × (ends_by step n thread ≡ true)
+
+-- the owner of the semaphore for which a thread waits that waits for this, if there is one
+abbrev pub owner_awaited : List SemaphoreState → Option Wait → Option ℕ
+owner_awaited semaphores None = None
+owner_awaited semaphores (Some ForTime) = None
+owner_awaited semaphores (Some (ForEvents set all)) = None
+owner_awaited semaphores (Some (AtBarrier i)) = None
+owner_awaited semaphores (Some (ForPeriod i)) = None
+owner_awaited semaphores (Some (ForSemaphore i)) = (nth no_semaphore semaphores i).owner
+
+-- The thread on which a thread waits: the owner of the semaphore for which it waits, if there is one.
+abbrev pub waits_on : Plain → ℕ → Option ℕ
+waits_on k u = owner_awaited k.semaphores (thread_at k u).wait

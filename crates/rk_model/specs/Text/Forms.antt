@@ -6,8 +6,11 @@ use Rattle.rk_model.specs.declared.forms.TheConstants.{FORMS}
 use Rattle.rk_model.specs.declared.numbers.Name.{Name as NameOf}
 use Rattle.rk_model.specs.declared.scenario.Target.{Target}
 use Rattle.rk_model.specs.declared.scenario.Wish.{Wish as WishOf}
+use Rattle.rk_model.specs.declared.semaphore.Protocol.{Protocol as ProtocolOf}
+use Rattle.rk_model.specs.declared.semaphore.SemKind.{SemKind}
+use Rattle.rk_model.specs.declared.waiting.Order.{Order as OrderOf}
 use Rattle.rk_model.specs.declared.scenario.Op.{Op}
-use Rattle.rk_model.specs.declared.scenario.Op.TheVariants.{Work, Goto, TaskCreate, TaskIdent, TaskStart, TaskSuspend, TaskResume, TaskSetPriority, TaskDelete, TaskWakeAfter, EventSend, EventReceive, BarrierCreate, BarrierIdent, BarrierWait, BarrierRelease, BarrierDelete, PartCreate, PartIdent, PartGet, PartReturn, PartDelete, PeriodCreate, PeriodIdent, PeriodPeriod, PeriodCancel, PeriodDelete}
+use Rattle.rk_model.specs.declared.scenario.Op.TheVariants.{Work, Goto, TaskCreate, TaskIdent, TaskStart, TaskSuspend, TaskResume, TaskSetPriority, TaskDelete, TaskWakeAfter, EventSend, EventReceive, SemCreate, SemIdent, SemObtain, SemRelease, SemFlush, SemDelete, BarrierCreate, BarrierIdent, BarrierWait, BarrierRelease, BarrierDelete, PartCreate, PartIdent, PartGet, PartReturn, PartDelete, PeriodCreate, PeriodIdent, PeriodPeriod, PeriodCancel, PeriodDelete}
 
 -- What a word behind the first stands for.
 pub data Operand : Type 0 where
@@ -33,6 +36,12 @@ pub data Operand : Type 0 where
   Kind : Operand
   -- how long to wait: `nowait`, or a number of ticks
   Wish : Operand
+  -- the kind of a semaphore: `counting`, `simple` or `binary`
+  SemaphoreKind : Operand
+  -- the order in which the queue of a semaphore serves: `fifo` or `priority`
+  Order : Operand
+  -- the protocol of a semaphore: `none`, which is the only one so far
+  Protocol : Operand
 
 -- any number of 32 bits
 abbrev pub Any : Operand
@@ -51,11 +60,18 @@ Value Earlier = ℕ
 Value Mode = Bool
 Value Kind = Bool
 Value Wish = WishOf
+Value SemaphoreKind = SemKind
+Value Order = OrderOf
+Value Protocol = ProtocolOf
 
 -- what makes an op of the values of operands
 abbrev pub Makes : List Operand → Type 0
 Makes [] = Op
 Makes (operand ∷ operands) = Value operand → Makes operands
+
+-- the op of a line sem.create of these values
+abbrev pub sem_create_of : NameOf → ℕ → SemKind → OrderOf → ProtocolOf → ℕ → ℕ → Op
+sem_create_of name count kind order protocol ceiling var = SemCreate name (record { count = count; kind = kind; order = order; protocol = protocol; ceiling = ceiling }) var
 
 -- The form of a line: its first word, its operands, and the op that their values make.
 pub data Form : Type 0 where
@@ -75,6 +91,12 @@ form_of (TaskDelete id) = Row (codes "task.delete") (Id ∷ []) TaskDelete
 form_of (TaskWakeAfter n) = Row (codes "task.wake_after") (Any ∷ []) TaskWakeAfter
 form_of (EventSend id set) = Row (codes "event.send") (Id ∷ Any ∷ []) EventSend
 form_of (EventReceive set all wish var) = Row (codes "event.receive") (Any ∷ Mode ∷ Wish ∷ Var ∷ []) EventReceive
+form_of (SemCreate name spec var) = Row (codes "sem.create") (Name0 ∷ Any ∷ SemaphoreKind ∷ Order ∷ Protocol ∷ Any ∷ Var ∷ []) sem_create_of
+form_of (SemIdent name var) = Row (codes "sem.ident") (Name ∷ Var ∷ []) SemIdent
+form_of (SemObtain id wish) = Row (codes "sem.obtain") (Id ∷ Wish ∷ []) SemObtain
+form_of (SemRelease id) = Row (codes "sem.release") (Id ∷ []) SemRelease
+form_of (SemFlush id) = Row (codes "sem.flush") (Id ∷ []) SemFlush
+form_of (SemDelete id) = Row (codes "sem.delete") (Id ∷ []) SemDelete
 form_of (BarrierCreate name automatic most var) = Row (codes "barrier.create") (Name0 ∷ Kind ∷ Any ∷ Var ∷ []) BarrierCreate
 form_of (BarrierIdent name var) = Row (codes "barrier.ident") (Name ∷ Var ∷ []) BarrierIdent
 form_of (BarrierWait id ticks) = Row (codes "barrier.wait") (Id ∷ Any ∷ []) BarrierWait

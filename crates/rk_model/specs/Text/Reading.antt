@@ -13,7 +13,10 @@ use Rattle.rk_model.specs.declared.scenario.Init.{Init}
 use Rattle.rk_model.specs.declared.scenario.Scenario.{Scenario}
 use Rattle.rk_model.specs.declared.scenario.ScenarioWhy.{ScenarioWhy}
 use Rattle.rk_model.specs.declared.scenario.ScenarioWhy.TheVariants.{Header, TooLarge, NotYetBuilt}
-use Rattle.rk_model.specs.Text.Words.{lines_of, words_of, is_plain, is_skipped, number_of, name_of, name0_of, var_of, is_body_name}
+use Rattle.rk_model.specs.declared.semaphore.SemKind.{SemKind}
+use Rattle.rk_model.specs.declared.semaphore.Protocol.{Protocol as ProtocolOf}
+use Rattle.rk_model.specs.declared.waiting.Order.{Order as OrderOf}
+use Rattle.rk_model.specs.Text.Words.{lines_of, words_of, is_plain, is_skipped, number_of, name_of, name0_of, var_of, is_body_name, semaphore_kind_of, order_of, protocol_of}
 use Rattle.rk_model.specs.Text.Forms.{Operand, Value, Makes, Form, Row, form_of, form_in}
 use Rattle.rk_model.specs.Text.Scenarios.{Known, body_of, body_known, cpus_in, is_target}
 
@@ -75,10 +78,10 @@ abbrev pub named : Option ℕ → Result NameOf ScenarioWhy
 named None = Err NotYetBuilt
 named (Some n) = Ok (record { bits = n })
 
--- a number where there is one
-abbrev pub given_number : Option ℕ → Result ℕ ScenarioWhy
-given_number None = Err NotYetBuilt
-given_number (Some n) = Ok n
+-- a number, or another value, where there is one
+abbrev pub given_value : {X : Type 0} → Option X → Result X ScenarioWhy
+given_value None = Err NotYetBuilt
+given_value (Some n) = Ok n
 
 -- the number from least to most that a word spells
 unfoldable pub number_operand : ℕ → ℕ → List ℕ → Result ℕ ScenarioWhy
@@ -94,7 +97,7 @@ name0_operand word = named (name0_of word)
 
 -- the number of the variable that a word spells
 unfoldable pub var_operand : List ℕ → Result ℕ ScenarioWhy
-var_operand word = given_number (var_of word)
+var_operand word = given_value (var_of word)
 
 -- an ID or an address that is a number
 abbrev pub given_operand : List ℕ → Result Target ScenarioWhy
@@ -121,7 +124,7 @@ address_operand word = id_by (var_of word) (given_operand word)
 
 -- the number of the body whose name the word is, of those that a line of a body may name
 unfoldable pub start_operand : Known → List ℕ → Result ℕ ScenarioWhy
-start_operand known word = given_number (body_known known.bodies known.own word)
+start_operand known word = given_value (body_known known.bodies known.own word)
 
 -- the number of one of these earlier lines that isn't a goto
 abbrev pub led : List Op → Option ℕ → Result ℕ ScenarioWhy
@@ -138,7 +141,7 @@ name_operand word = named (name_of word)
 
 -- the number of the body of these whose name the word is
 unfoldable pub body_operand : List Body → List ℕ → Result ℕ ScenarioWhy
-body_operand bodies word = given_number (body_of bodies word)
+body_operand bodies word = given_value (body_of bodies word)
 
 -- the second of two words, as true, or the first
 unfoldable pub either_operand : List ℕ → List ℕ → List ℕ → Result Bool ScenarioWhy
@@ -154,6 +157,16 @@ wish_operand word =
       ticks ← number_operand 0 4294967295 word
       Ok (Limit ticks))
 
+-- the kind, the order and the protocol of a semaphore that a word spells
+unfoldable pub semaphore_kind_operand : List ℕ → Result SemKind ScenarioWhy
+semaphore_kind_operand word = given_value (semaphore_kind_of word)
+
+unfoldable pub order_operand : List ℕ → Result OrderOf ScenarioWhy
+order_operand word = given_value (order_of word)
+
+unfoldable pub protocol_operand : List ℕ → Result ProtocolOf ScenarioWhy
+protocol_operand word = given_value (protocol_of word)
+
 -- the value of an operand that a word spells, in a line that may refer to what is known there
 unfoldable pub operand_of : Known → (o : Operand) → List ℕ → Result (Value o) ScenarioWhy
 operand_of known (Operand.Number least most) word = number_operand least most word
@@ -167,6 +180,9 @@ operand_of known Operand.Earlier word = goto_operand known.earlier word
 operand_of known Operand.Mode word = either_operand (codes "any") (codes "all") word
 operand_of known Operand.Kind word = either_operand (codes "manual") (codes "auto") word
 operand_of known Operand.Wish word = wish_operand word
+operand_of known Operand.SemaphoreKind word = semaphore_kind_operand word
+operand_of known Operand.Order word = order_operand word
+operand_of known Operand.Protocol word = protocol_operand word
 
 -- ---- the lines of a body
 

@@ -13,7 +13,7 @@ use Rattle.rk_model.specs.declared.scenario.Body.{Body}
 use Rattle.rk_model.specs.declared.scenario.Init.{Init}
 use Rattle.rk_model.specs.declared.scenario.Scenario.{Scenario}
 use Rattle.rk_model.specs.Text.Forms.{Operand, Value, Makes, Form, Row, form_of}
-use Rattle.rk_model.specs.Text.Words.{lines_of, words_of, is_plain, is_skipped, number_of, name_of, name0_of, var_of, is_body_name}
+use Rattle.rk_model.specs.Text.Words.{lines_of, words_of, is_plain, is_skipped, number_of, name_of, name0_of, var_of, is_body_name, semaphore_kind_of, order_of, protocol_of}
 
 -- the words of the lines that aren't skipped
 abbrev pub told_lines : List ℕ → List (List (List ℕ))
@@ -108,6 +108,9 @@ IsSpelled known Operand.Earlier word n = IsEarlier known.earlier word n
 IsSpelled known Operand.Mode word all = IsEither word (codes "any") (codes "all") all
 IsSpelled known Operand.Kind word automatic = IsEither word (codes "manual") (codes "auto") automatic
 IsSpelled known Operand.Wish word wish = IsWish word wish
+IsSpelled known Operand.SemaphoreKind word kind = semaphore_kind_of word ≡ Some kind
+IsSpelled known Operand.Order word order = order_of word ≡ Some order
+IsSpelled known Operand.Protocol word protocol = protocol_of word ≡ Some protocol
 
 -- The words spell values of the operands, one each, which make the op.
 abbrev pub Spell : Known → (operands : List Operand) → Makes operands → List (List ℕ) → Op → Type 0

@@ -1,6 +1,5 @@
 use Rattle.std.proofs.Common.{refl}
 use Rattle.rk_model.specs.declared.ids.Class.TheVariants.{Task, Barrier, Partition, Period}
-use Rattle.rk_model.specs.Directives.Waits.{OfBarrier}
 use Rattle.rk_parts.specs.Joined.{plain_of}
 use Rattle.rk_parts.proofs.WholeLemmas.{all_groups_lent, all_partitions_lent, all_periods_lent}
 use Rattle.rk_directives.proofs.DirectiveLemmas.LentLemmas.{all_both, all_grouped, all_wide, all_tells, caller_unarmed, caller_lent}
@@ -41,7 +40,7 @@ pub perform_narrow-requires-clause-free : goal.perform_narrow-requires-clause-fr
 perform_narrow-requires-clause-free c = c.requires.acts.waits_not
 
 pub perform_narrow-requires-clause-queue : goal.perform_narrow-requires-clause-queue
-perform_narrow-requires-clause-queue c = λ i _ t. c.requires.acts.sound.tied.queued t refl (OfBarrier i)
+perform_narrow-requires-clause-queue c = λ object _ t. c.requires.acts.sound.tied.queued t refl object
 
 pub returns-in-TaskCreate : goal.returns-in-TaskCreate
 returns-in-TaskCreate c = rw c.in-TaskCreate.is (all_wide c.args.all.now _ _ _ _ c.requires.whole (c.task_create.ensures c.args.all.now.scenario))
@@ -51,6 +50,15 @@ returns-in-TaskIdent c = rw c.in-TaskIdent.is (all_tells c.args.all.now _ _ c.re
 
 pub returns-in-TaskDelete : goal.returns-in-TaskDelete
 returns-in-TaskDelete c = rw c.in-TaskDelete.is c.perform_task_delete.ensures
+
+pub returns-in-SemCreate : goal.returns-in-SemCreate
+returns-in-SemCreate c = rw c.in-SemCreate.is c.perform_semaphore_create.ensures
+
+pub returns-in-SemIdent : goal.returns-in-SemIdent
+returns-in-SemIdent c = rw c.in-SemIdent.is (all_tells c.args.all.now _ _ c.requires.whole (c.semaphore_ident.ensures (plain_of c.args.all.now)))
+
+pub returns-in-SemDelete : goal.returns-in-SemDelete
+returns-in-SemDelete c = rw c.in-SemDelete.is c.perform_semaphore_delete.ensures
 
 pub returns-in-BarrierCreate : goal.returns-in-BarrierCreate
 returns-in-BarrierCreate c = rw c.in-BarrierCreate.is (all_grouped c.args.all.now _ _ _ _ c.requires.whole (c.barrier_create.ensures c.args.all.now.scenario))

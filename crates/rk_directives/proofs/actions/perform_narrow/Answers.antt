@@ -28,6 +28,15 @@ returns-in-Goto c = rw c.in-Goto.is (does_both _ _ _ _ _ _ (c.task_exit-in-Goto.
 pub returns-in-EventSend : goal.returns-in-EventSend
 returns-in-EventSend c = rw c.in-EventSend.is (c.event_send.ensures c.args.scenario.now)
 
+pub returns-in-SemObtain : goal.returns-in-SemObtain
+returns-in-SemObtain c = rw c.in-SemObtain.is (c.semaphore_obtain.ensures c.args.scenario.now)
+
+pub returns-in-SemRelease : goal.returns-in-SemRelease
+returns-in-SemRelease c = rw c.in-SemRelease.is (c.semaphore_release.ensures c.args.scenario.now)
+
+pub returns-in-SemFlush : goal.returns-in-SemFlush
+returns-in-SemFlush c = rw c.in-SemFlush.is (c.semaphore_flush.ensures c.args.scenario.now)
+
 pub returns-in-BarrierWait : goal.returns-in-BarrierWait
 returns-in-BarrierWait c = rw c.in-BarrierWait.is (c.barrier_wait.ensures c.args.scenario.now)
 
