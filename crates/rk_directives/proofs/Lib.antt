@@ -5,6 +5,7 @@ pub mod ThreadBoundsLemmas
 pub mod TimerLemmas
 pub mod TieLemmas
 pub mod WaitChainLemmas
+pub mod KeptHoldingLemmas
 pub mod GentleChangeLemmas
 pub mod OutcomeLemmas
 pub mod DirectiveLemmas

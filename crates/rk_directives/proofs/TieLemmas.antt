@@ -8,18 +8,37 @@ use Rattle.rk_model.specs.declared.state.Armed.{Armed}
 use Rattle.rk_model.specs.declared.state.Armer.{Armer}
 use Rattle.rk_model.specs.declared.state.Armer.TheVariants.{Thread as OfThread, Period as OfPeriod}
 use Rattle.rk_model.specs.declared.state.Thread.{Thread}
+use Rattle.rk_model.specs.declared.state.Wait.{Wait}
+use Rattle.rk_model.specs.declared.state.Wait.TheVariants.{ForTime, ForEvents, AtBarrier, ForPeriod, ForSemaphore}
 use Rattle.rk_model.specs.Lists.{nth, with_nth, times}
 use Rattle.rk_model.specs.declared.waiting.Caller.{Caller}
 use Rattle.rk_model.specs.declared.waiting.Waiter.{Waiter}
 use Rattle.rk_model.specs.Queues.{threads as waiting, without as waiters_without, waiter_of}
 use Rattle.rk_model.specs.State.{SemaphoreState, BarrierState, ClusterState, no_thread, no_cluster, no_semaphore, no_barrier}
 use Rattle.rk_model.specs.Scheduling.Timers.{is_same, times_armed, without_timer, is_due, due_at, without_due}
-use Rattle.rk_model.specs.Directives.Waits.{Object, OfBarrier, OfSemaphore, object_of_wait, is_for, arrivals_in, without, with_arrival, without_arrival, with_waiter, without_waiter, with_waiter_in, without_waiter_in}
+use Rattle.rk_model.specs.Directives.Waits.{Object, OfBarrier, OfSemaphore, object_of_wait, is_same_object, is_for, arrivals_in, without, with_arrival, without_arrival, with_waiter, without_waiter, with_waiter_in, without_waiter_in}
 use Rattle.rk_model.proofs.BooleanLemmas.{equal_test, same_number}
 use Rattle.rk_model.proofs.CountLemmas.{same_either_way, times-append, times-filter}
 use Rattle.rk_queue.proofs.QueueLemmas.{times-entered as entered_times, times-left as left_times}
 use Rattle.rk_model.proofs.IndexLemmas.{nth-with_same, nth-with_other, nth-with_kept, length-with_nth}
-use Rattle.rk_directives.specs.Sound.{is_asleep, IsQueued, WillWake, AreTied, but_none, but_one}
+use Rattle.rk_directives.specs.Sound.{is_asleep, is_waiting, IsQueued, WillWake, AreTied, but_none, but_one}
+
+-- ---- what a thread waits for
+
+same_object : (p q : Object) → is_same_object p q ≡ true → p ≡ q
+same_object (OfBarrier i) (OfBarrier j) h = ap (λ n. OfBarrier n) (same_number i j h)
+same_object (OfBarrier i) (OfSemaphore j) h = absurd (false≢true h)
+same_object (OfSemaphore i) (OfBarrier j) h = absurd (false≢true h)
+same_object (OfSemaphore i) (OfSemaphore j) h = ap (λ n. OfSemaphore n) (same_number i j h)
+
+-- who waits for an object waits for nothing else
+pub awaited : (wait : Option Wait) (object : Object) → is_for (object_of_wait wait) object ≡ true → (object_of_wait wait ≡ Some object) × (is_waiting wait ≡ true)
+awaited None object h = absurd (false≢true h)
+awaited (Some ForTime) object h = absurd (false≢true h)
+awaited (Some (ForEvents set all)) object h = absurd (false≢true h)
+awaited (Some (AtBarrier j)) object h = (ap (λ p. Some p) (same_object (OfBarrier j) object h), refl)
+awaited (Some (ForPeriod j)) object h = absurd (false≢true h)
+awaited (Some (ForSemaphore j)) object h = (ap (λ p. Some p) (same_object (OfSemaphore j) object h), refl)
 
 -- ---- threads that are put
 

@@ -1,5 +1,5 @@
 -- What the rows of the kernel do to the parts that are lent, against what they come to.
-use Rattle.std.specs.Prelude.{ℕ, ◌≡◌, ◌≤◌, List, [], ◌∷◌, Bool, true, false, Option, Some, None, Result, Ok, Err, if◌then◌else◌}
+use Rattle.std.specs.Prelude.{ℕ, ◌≡◌, ◌≤◌, List, [], ◌∷◌, Bool, true, false, Option, Some, None, Result, Ok, Err, ◌==◌, if◌then◌else◌}
 use Rattle.std.specs.List.{AllByRecursion}
 use Rattle.rk_model.specs.declared.entry.Answer.{Answer}
 use Rattle.rk_model.specs.declared.entry.Reply.{Reply}
@@ -25,26 +25,49 @@ use Rattle.rk_model.specs.declared.limits.TheConstants.{MOST_OBJECTS}
 use Rattle.rk_model.specs.Directives.Periods.{end_of}
 use Rattle.rk_model.specs.Scheduling.Timers.{times_armed}
 use Rattle.rk_period.specs.Periods.{Fits, waits_for}
-use Rattle.rk_parts.specs.Joined.{no_scenario, joined, plain_of, present_of, semaphores_of, barriers_of, thread_lent, period_lent, timers_lent}
+use Rattle.rk_parts.specs.Joined.{no_scenario, joined, plain_of, present_of, threads_of, semaphores_of, barriers_of, thread_lent, semaphore_lent, period_lent, timers_lent}
 use Rattle.rk_parts.specs.Groups.{GroupFrame, group_frames}
+use Rattle.rk_parts.specs.Holdings.{AreHeld, holder, holdings}
 use Rattle.rk_parts.specs.Lent.{AreLaid, layouts, stored, frame}
 
--- The parts stand for the state that this makes of the one that they stood for, whatever is not lent; and they keep their frame.
+-- each semaphore of these groups has the owner that it had
+abbrev pub KeepsOwners : List GroupPart → List GroupPart → Type 0
+KeepsOwners groups groups' = (i : ℕ) → (semaphore_lent groups' i).owner ≡ (semaphore_lent groups i).owner
+
+-- each semaphore is held by its owner, if it was so before
+abbrev pub KeepsHeld : List ClusterPart → List GroupPart → List ClusterPart → List GroupPart → Type 0
+KeepsHeld before groups after groups' = AreHeld (holdings before) (semaphores_of groups) → AreHeld (holdings after) (semaphores_of groups')
+
+-- The parts stand for the state that this makes of the one that they stood for, whatever is not lent; and they keep their frame and their holdings.
 pub record Becomes (s : Scenario) (change : Plain → Plain) (before after : List ClusterPart) : Type 0 where
   pub state : (table : Table) (groups : List GroupPart) → AreLaid s.clusters (layouts before) → joined s table after groups ≡ change (joined s table before groups)
   pub kept : frame after ≡ frame before
+  pub held : holdings after ≡ holdings before
 
--- A narrow row: the answer is that of its outcome in the state that the parts stand for, whatever is not lent; that state is changed as the outcome says; and the parts keep their frame.
+-- The same, whoever holds what then.
+pub record Comes (s : Scenario) (change : Plain → Plain) (before after : List ClusterPart) : Type 0 where
+  pub state : (table : Table) (groups : List GroupPart) → AreLaid s.clusters (layouts before) → joined s table after groups ≡ change (joined s table before groups)
+  pub kept : frame after ≡ frame before
+
+-- The parts stand for the same state; where a semaphore was held by its owner of before, it is held by its owner of now, and who holds another does so still.
+pub record Notes (before : List ClusterPart) (i : ℕ) (was owner : Option ℕ) (after : List ClusterPart) : Type 0 where
+  pub comes : (s : Scenario) → Comes s (λ k. k) before after
+  pub threads : threads_of after ≡ threads_of before
+  pub held : holder (holdings before) i ≡ was → (j : ℕ) → holder (holdings after) j ≡ (if j == i then owner else holder (holdings before) j)
+
+-- A narrow row: the answer is that of its outcome in the state that the parts stand for, whatever is not lent; that state is changed as the outcome says; and the parts keep their frame and their holdings.
 pub record Does (s : Scenario) (row : Plain → Outcome) (answer : Answer) (before after : List ClusterPart) : Type 0 where
   pub told : (table : Table) (groups : List GroupPart) → answer ≡ answer_of (row (joined s table before groups))
   pub state : (table : Table) (groups : List GroupPart) → AreLaid s.clusters (layouts before) → joined s table after groups ≡ changed (joined s table before groups) (row (joined s table before groups))
   pub kept : frame after ≡ frame before
+  pub held : holdings after ≡ holdings before
 
--- The same of parts of clusters and of groups: they stand for the state that this makes of the one that they stood for, and keep their frames.
+-- The same of parts of clusters and of groups: they stand for the state that this makes of the one that they stood for, and keep their frames; and each semaphore is held by its owner still.
 pub record BecomesBoth (s : Scenario) (change : Plain → Plain) (before : List ClusterPart) (groups : List GroupPart) (after : List ClusterPart) (groups' : List GroupPart) : Type 0 where
   pub state : (table : Table) → AreLaid s.clusters (layouts before) → joined s table after groups' ≡ change (joined s table before groups)
   pub kept : frame after ≡ frame before
   pub framed : group_frames groups' ≡ group_frames groups
+  pub held : KeepsHeld before groups after groups'
 
 -- A narrow row that is lent parts of groups too.
 pub record DoesBoth (s : Scenario) (row : Plain → Outcome) (answer : Answer) (before : List ClusterPart) (groups : List GroupPart) (after : List ClusterPart) (groups' : List GroupPart) : Type 0 where
@@ -52,19 +75,22 @@ pub record DoesBoth (s : Scenario) (row : Plain → Outcome) (answer : Answer) (
   pub state : (table : Table) → AreLaid s.clusters (layouts before) → joined s table after groups' ≡ changed (joined s table before groups) (row (joined s table before groups))
   pub kept : frame after ≡ frame before
   pub framed : group_frames groups' ≡ group_frames groups
+  pub held : KeepsHeld before groups after groups'
 
--- All cluster parts and the table stand for the state that this makes of the one that they stood for; the parts are still parts of it, and store the same.
+-- All cluster parts and the table stand for the state that this makes of the one that they stood for; the parts are still parts of it, and store and hold the same.
 pub record BecomesWide (s : Scenario) (change : Plain → Plain) (before : List ClusterPart) (table : Table) (after : List ClusterPart) (table' : Table) : Type 0 where
   pub state : (groups : List GroupPart) → AreLaid s.clusters (layouts before) → joined s table' after groups ≡ change (joined s table before groups)
   pub laid : AreLaid s.clusters (layouts before) → AreLaid s.clusters (layouts after)
   pub kept : stored after ≡ stored before
+  pub held : holdings after ≡ holdings before
 
--- A wide row, which is lent all cluster parts and the table: the answer is that of its outcome, the state is changed as it says, and the parts are still parts of that state and store the same.
+-- A wide row, which is lent all cluster parts and the table: the answer is that of its outcome, the state is changed as it says, and the parts are still parts of that state and store and hold the same.
 pub record DoesWide (s : Scenario) (row : Plain → Outcome) (answer : Answer) (before : List ClusterPart) (table : Table) (after : List ClusterPart) (table' : Table) : Type 0 where
   pub told : (groups : List GroupPart) → answer ≡ answer_of (row (joined s table before groups))
   pub state : (groups : List GroupPart) → AreLaid s.clusters (layouts before) → joined s table' after groups ≡ changed (joined s table before groups) (row (joined s table before groups))
   pub laid : AreLaid s.clusters (layouts before) → AreLaid s.clusters (layouts after)
   pub kept : stored after ≡ stored before
+  pub held : holdings after ≡ holdings before
 
 -- The same of all parts of clusters and groups, and the table.
 pub record BecomesEvery (s : Scenario) (change : Plain → Plain) (before : List ClusterPart) (groups : List GroupPart) (table : Table) (after : List ClusterPart) (groups' : List GroupPart) (table' : Table) : Type 0 where
@@ -72,6 +98,7 @@ pub record BecomesEvery (s : Scenario) (change : Plain → Plain) (before : List
   pub laid : AreLaid s.clusters (layouts before) → AreLaid s.clusters (layouts after)
   pub kept : stored after ≡ stored before
   pub framed : group_frames groups' ≡ group_frames groups
+  pub held : KeepsHeld before groups after groups'
 
 -- A wide row that is lent the parts of groups too.
 pub record DoesEvery (s : Scenario) (row : Plain → Outcome) (answer : Answer) (before : List ClusterPart) (groups : List GroupPart) (table : Table) (after : List ClusterPart) (groups' : List GroupPart) (table' : Table) : Type 0 where
@@ -80,12 +107,14 @@ pub record DoesEvery (s : Scenario) (row : Plain → Outcome) (answer : Answer) 
   pub laid : AreLaid s.clusters (layouts before) → AreLaid s.clusters (layouts after)
   pub kept : stored after ≡ stored before
   pub framed : group_frames groups' ≡ group_frames groups
+  pub held : KeepsHeld before groups after groups'
 
 -- A wide row that is lent the parts of groups and the table alone.
 pub record DoesGroups (s : Scenario) (row : Plain → Outcome) (answer : Answer) (groups : List GroupPart) (table : Table) (groups' : List GroupPart) (table' : Table) : Type 0 where
   pub told : (parts : List ClusterPart) → answer ≡ answer_of (row (joined s table parts groups))
   pub state : (parts : List ClusterPart) → joined s table' parts groups' ≡ changed (joined s table parts groups) (row (joined s table parts groups))
   pub framed : group_frames groups' ≡ group_frames groups
+  pub owners : KeepsOwners groups groups'
 
 -- what of all parts no directive touches: of the groups their frames
 pub record Untouched : Type 0 where
@@ -96,12 +125,13 @@ pub record Untouched : Type 0 where
 abbrev pub untouched : AllParts → Untouched
 untouched all = record { scenario = all.scenario; groups = group_frames all.groups; time = all.table.present }
 
--- A row that is lent all parts: the answer is that of the outcome, the state is changed as it says, the parts are still parts of that state and store the same, and the rest is untouched.
+-- A row that is lent all parts: the answer is that of the outcome, the state is changed as it says, the parts are still parts of that state and store the same, each semaphore is held by its owner, and the rest is untouched.
 pub record DoesAll (o : Outcome) (answer : Answer) (before after : AllParts) : Type 0 where
   pub told : answer ≡ answer_of o
   pub state : plain_of after ≡ changed (plain_of before) o
   pub laid : AreLaid before.scenario.clusters (layouts after.clusters)
   pub kept : stored after.clusters ≡ stored before.clusters
+  pub held : AreHeld (holdings after.clusters) (semaphores_of after.groups)
   pub rest : untouched after ≡ untouched before
 
 -- The state of these parts of clusters and groups by themselves.

@@ -3,3 +3,4 @@ pub mod Sound
 pub mod Does
 pub mod Calls
 pub mod Refusals
+pub mod HeldChains

@@ -20,7 +20,8 @@ ghost use Rattle.rk_model.specs.Directives.Tasks.{task_delete};
 ghost use Rattle.rk_model.specs.Directives.Waits.{Object};
 ghost use Rattle.rk_directives.specs.Does.{Does, DoesAll, DoesBoth, IsQueueOf, MayCall, lent_both};
 ghost use Rattle.rk_directives.specs.Calls.{IsActing, period_called, queue_named};
-ghost use Rattle.rk_parts.specs.Joined.{plain_of, thread_lent, timers_lent};
+ghost use Rattle.rk_parts.specs.Holdings.{AreHeld, holdings};
+ghost use Rattle.rk_parts.specs.Joined.{plain_of, semaphores_of, thread_lent, timers_lent};
 ghost use Rattle.rk_parts.specs.Whole.{AreWhole};
 
 use crate::barriers::{
@@ -69,6 +70,7 @@ fn perform_narrow(
     requires lives { has_begun (thread_lent clusters.old caller).life ≡ true }
     requires unarmed { times_armed (OfThread caller) (timers_lent clusters.old caller) ≡ 0 }
     requires free { (thread_lent clusters.old caller).wait ≡ None }
+    requires held { AreHeld (holdings clusters.old) (semaphores_of groups.old) }
     requires queue { (object : Object) → queue_named (lent_both clusters.old groups.old) caller op ≡ Some object → IsQueueOf clusters.old groups.old object }
     requires period { (i : ℕ) → period_called (lent_both clusters.old groups.old) caller op ≡ Some i → MayCall clusters.old groups.old i caller }
     requires bodies { AreRunnable scenario.now.bodies }
@@ -138,7 +140,7 @@ fn perform_semaphore_create(
     ensures { DoesAll (semaphore_create (plain_of all.old) caller name.bits spec) result all.old all.new }
 {
     semaphore_create(
-        &all.clusters,
+        &mut all.clusters,
         &mut all.groups,
         &mut all.table.names,
         caller,

@@ -1,37 +1,42 @@
-//! The chains of threads that wait for semaphores, each on the owner of the one for which it waits.
+//! The chains of threads that wait for semaphores, each on the owner of the one for which it waits. They
+//! are followed in the parts of clusters alone: what a thread waits for stands with the thread, and who
+//! owns a semaphore with its owner.
 
-ghost use Rattle.std.specs.Prelude.{◌≡◌, length};
+ghost use Rattle.std.specs.Prelude.{◌≡◌, List, length};
 ghost use Rattle.rk_model.specs.Directives.Semaphores.{reaches_from};
-ghost use Rattle.rk_model.specs.Scheduling.Chains.{reaches, waits_on};
+ghost use Rattle.rk_model.specs.Scheduling.Chains.{reaches};
 ghost use Rattle.rk_directives.specs.Does.{lent_both};
-ghost use Rattle.rk_parts.specs.Joined.{threads_of};
+ghost use Rattle.rk_directives.specs.HeldChains.{waits_on_holder};
+ghost use Rattle.rk_parts.specs.declared.parts.GroupPart.{GroupPart as GroupView};
+ghost use Rattle.rk_parts.specs.Holdings.{AreHeld, holdings};
+ghost use Rattle.rk_parts.specs.Joined.{semaphores_of, threads_of};
 
 use rk_model::limits::MOST_OBJECTS;
 use rk_model::{ThreadIx, Wait};
+use rk_parts::holdings::holder;
 use rk_parts::lent::thread_of;
-use rk_parts::parts::{ClusterPart, GroupPart};
-use rk_parts::semaphores::owner;
+use rk_parts::parts::ClusterPart;
 
 /// The thread on which a thread waits: the owner of the semaphore for which it waits, if there is one.
-fn waits_on(clusters: &[ClusterPart], groups: &[GroupPart], thread: ThreadIx) -> Option<ThreadIx>
-    ensures { result ≡ waits_on (lent_both clusters.now groups.now) thread }
+fn waits_on(clusters: &[ClusterPart], thread: ThreadIx) -> Option<ThreadIx>
+    ensures { result ≡ waits_on_holder clusters.now thread }
 {
     match thread_of(clusters, thread).wait {
-        Some(Wait::ForSemaphore(index)) => owner(groups, index),
+        Some(Wait::ForSemaphore(index)) => holder(clusters, index),
         _ => None,
     }
 }
 
 /// Whether the chain of a thread reaches another.
-fn reaches(clusters: &[ClusterPart], groups: &[GroupPart], from: ThreadIx, to: ThreadIx) -> bool
-    ensures { result ≡ reaches (waits_on (lent_both clusters.now groups.now)) (length (threads_of clusters.now)) from to }
+fn reaches(clusters: &[ClusterPart], from: ThreadIx, to: ThreadIx) -> bool
+    ensures { result ≡ reaches (waits_on_holder clusters.now) (length (threads_of clusters.now)) from to }
 {
     let mut at = from;
     for _step in 0..MOST_OBJECTS {
         if at == to {
             return true;
         }
-        match waits_on(clusters, groups, at) {
+        match waits_on(clusters, at) {
             None => return false,
             Some(next) => at = next,
         }
@@ -40,16 +45,11 @@ fn reaches(clusters: &[ClusterPart], groups: &[GroupPart], from: ThreadIx, to: T
 }
 
 /// Whether the chain of a semaphore's owner, if it has one, reaches a thread.
-pub(crate) fn reaches_from(
-    clusters: &[ClusterPart],
-    groups: &[GroupPart],
-    owner: Option<ThreadIx>,
-    to: ThreadIx,
-) -> bool
-    ensures { result ≡ reaches_from (lent_both clusters.now groups.now) owner to }
+pub(crate) fn reaches_from(clusters: &[ClusterPart], owner: Option<ThreadIx>, to: ThreadIx) -> bool
+    ensures { (groups : List GroupView) → AreHeld (holdings clusters.now) (semaphores_of groups) → result ≡ reaches_from (lent_both clusters.now groups) owner to }
 {
     match owner {
         None => false,
-        Some(owner) => reaches(clusters, groups, owner, to),
+        Some(owner) => reaches(clusters, owner, to),
     }
 }

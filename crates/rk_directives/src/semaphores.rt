@@ -1,9 +1,10 @@
 //! The directives of the semaphore manager.
 
-ghost use Rattle.std.specs.Prelude.{◌≡◌, ◌≤◌, ℕ, IfSome, None, Some, length, true};
+ghost use Rattle.std.specs.Prelude.{◌≡◌, ◌≤◌, ℕ, List, IfSome, None, Some, length, true};
 ghost use Rattle.rk_model.specs.declared.ids.Class.TheVariants.{Semaphore};
 ghost use Rattle.rk_model.specs.declared.limits.TheConstants.{MOST_OBJECTS};
 ghost use Rattle.rk_model.specs.declared.scenario.Scenario.{Scenario as ScenarioView};
+ghost use Rattle.rk_model.specs.declared.scenario.Wish.TheVariants.{Limit};
 ghost use Rattle.rk_model.specs.declared.state.Armer.TheVariants.{Thread as OfThread};
 ghost use Rattle.rk_model.specs.declared.status.Status.TheVariants.{Unsatisfied};
 ghost use Rattle.rk_model.specs.declared.waiting.Order.TheVariants.{Priority};
@@ -12,10 +13,12 @@ ghost use Rattle.rk_model.specs.Directives.Semaphores.{create_refusal, emptied_a
 ghost use Rattle.rk_model.specs.Directives.Waits.{OfSemaphore};
 ghost use Rattle.rk_model.specs.Scheduling.Timers.{times_armed};
 ghost use Rattle.rk_model.specs.State.{Plain, semaphore_at};
-ghost use Rattle.rk_directives.specs.Does.{BecomesBoth, BecomesEvery, DoesBoth, DoesEvery, IsQueueOf, Tells, lent_both, with_table};
+ghost use Rattle.rk_directives.specs.Does.{BecomesBoth, BecomesEvery, DoesBoth, DoesEvery, IsQueueOf, Notes, Tells, lent_both, with_table};
 ghost use Rattle.rk_directives.specs.Calls.{deleted_at, ticks_of};
+ghost use Rattle.rk_parts.specs.declared.parts.GroupPart.{GroupPart as GroupView};
 ghost use Rattle.rk_parts.specs.Groups.{PutsSemaphore, holds_semaphores};
-ghost use Rattle.rk_parts.specs.Joined.{lent, semaphore_lent, thread_lent, timers_lent};
+ghost use Rattle.rk_parts.specs.Holdings.{AreHeld, holdings};
+ghost use Rattle.rk_parts.specs.Joined.{lent, semaphore_lent, semaphores_of, thread_lent, timers_lent};
 ghost use Rattle.rk_parts.specs.NamesAgree.{IsNamed};
 
 use crate::chains::reaches_from;
@@ -26,6 +29,7 @@ use rk_model::limits::MOST_OBJECTS;
 use rk_model::{
     Answer, Caller, Class, Id, Name, Order, Protocol, SemSpec, Status, Target, ThreadIx, Wait, Wish,
 };
+use rk_parts::holdings::note_owner;
 use rk_parts::parts::{ClusterPart, GroupPart};
 use rk_parts::semaphores::{self, is_live, owner, waiter, wakes_of};
 use rk_parts::standing::prio_at_home;
@@ -66,27 +70,42 @@ fn create_refusal(spec: SemSpec, by: Caller) -> Option<Status>
     }
 }
 
+/// Lets the owner of a semaphore hold it, which was held by its owner of before, if it had one.
+fn note(clusters: &mut [ClusterPart], groups: &[GroupPart], index: u16, before: &Option<ThreadIx>)
+    requires low { 1 ≤ index }
+    requires high { index ≤ MOST_OBJECTS }
+    requires lives { (t : ℕ) → (semaphore_lent groups.now index).owner ≡ Some t → (before.now ≡ Some t → ⊥) → has_begun (thread_lent clusters.old t).life ≡ true }
+    ensures { Notes clusters.old index before.now (semaphore_lent groups.now index).owner clusters.new }
+{
+    if owner(groups, index) != *before {
+        note_owner(clusters, index, owner(groups, index));
+    }
+}
+
 /// `sem.create` (`rtems_semaphore_create`): makes a semaphore for which none waits, and answers its id.
 /// A binary one with count 0 is owned by the caller. It refuses with `INVALID_NAME` where the name is
 /// 0, with `NOT_DEFINED` where the protocol isn't `NoProtocol`, with `INVALID_NUMBER` where the kind
 /// isn't `Counting` and the count is above 1, and with `TOO_MANY` where 64 semaphores live.
 pub(crate) fn semaphore_create(
-    clusters: &[ClusterPart],
+    clusters: &mut [ClusterPart],
     groups: &mut [GroupPart],
     names: &mut Table,
     caller: ThreadIx,
     name: Name,
     spec: SemSpec,
 ) -> Answer
+    requires lives { has_begun (thread_lent clusters.old caller).life ≡ true }
     requires named { IsNamed names.old.semaphores (λ i. (semaphore_lent groups.old i).live) }
     requires lent { (i : ℕ) → 1 ≤ i → i ≤ MOST_OBJECTS → holds_semaphores groups.old i ≡ true }
-    ensures { (s : ScenarioView) → DoesEvery s (λ k. semaphore_create k caller name.bits spec) result clusters.now groups.old names.old clusters.now groups.new names.new }
+    ensures { (s : ScenarioView) → DoesEvery s (λ k. semaphore_create k caller name.bits spec) result clusters.old groups.old names.old clusters.new groups.new names.new }
 {
     let refusal = create_refusal(spec, caller_of(clusters, caller));
     match create(names, Class::Semaphore, name, refusal) {
         Err(status) => Answer::Refused(status),
         Ok(index) => {
+            let before = owner(groups, index);
             semaphores::create(groups, index, spec, caller_of(clusters, caller));
+            note(clusters, groups, index, &before);
             done(Id::of(Class::Semaphore, index).bits)
         }
     }
@@ -110,6 +129,17 @@ fn limit_of(wish: Wish) -> u32
     }
 }
 
+/// Whether a caller with this wish would close a cycle of waits: it wishes to wait, and the chain of the
+/// semaphore's owner, if it has one, reaches it.
+fn closes(clusters: &[ClusterPart], owner: Option<ThreadIx>, caller: ThreadIx, wish: Wish) -> bool
+    ensures { (ticks : ℕ) → wish ≡ Limit ticks → (groups : List GroupView) → AreHeld (holdings clusters.now) (semaphores_of groups) → result ≡ reaches_from (lent_both clusters.now groups) owner caller }
+{
+    match wish {
+        Wish::NoWait => false,
+        Wish::Limit(_) => reaches_from(clusters, owner, caller),
+    }
+}
+
 /// Obtains a semaphore for the caller, or lets it wait.
 fn obtain_at(
     clusters: &mut [ClusterPart],
@@ -124,24 +154,28 @@ fn obtain_at(
     requires lives { has_begun (thread_lent clusters.old caller).life ≡ true }
     requires free { (thread_lent clusters.old caller).wait ≡ None }
     requires unarmed { times_armed (OfThread caller) (timers_lent clusters.old caller) ≡ 0 }
+    requires held { AreHeld (holdings clusters.old) (semaphores_of groups.old) }
     requires queue { IsQueueOf clusters.old groups.old (OfSemaphore index) }
     ensures { (s : ScenarioView) → DoesBoth s (λ k. obtained_at k caller index (obtaining caller wish (reaches_from k (semaphore_at k index).owner caller) (semaphore_at k index))) result clusters.old groups.old clusters.new groups.new }
 {
     let by = caller_of(clusters, caller);
-    let closes = reaches_from(clusters, groups, owner(groups, index), caller);
+    let before = owner(groups, index);
+    let closes = closes(clusters, owner(groups, index), caller, wish);
     let reply = semaphores::obtain(groups, index, by, wish, closes);
     if let Status::Waits = reply.status {
         start_limited(clusters, caller, Wait::ForSemaphore(index), limit_of(wish));
         Answer::Waiting
     } else {
+        note(clusters, groups, index, &before);
         answered(reply)
     }
 }
 
 /// `sem.obtain` (`rtems_semaphore_obtain`): obtains a semaphore, or waits for it. It refuses with
-/// `INVALID_ID` where the semaphore is unknown; where the caller doesn't own it and it isn't free, with
-/// `UNSATISFIED` where the caller doesn't wish to wait, and with `INCORRECT_STATE` where the chain of
-/// its owner reaches the caller.
+/// `INVALID_ID` where the semaphore is unknown; where the caller owns it, with `UNSATISFIED` where it has
+/// obtained it 2^64 - 1 times; where the caller doesn't own it and it isn't free, with `UNSATISFIED`
+/// where the caller doesn't wish to wait, and with `INCORRECT_STATE` where the chain of its owner
+/// reaches the caller.
 pub(crate) fn semaphore_obtain(
     clusters: &mut [ClusterPart],
     groups: &mut [GroupPart],
@@ -152,6 +186,7 @@ pub(crate) fn semaphore_obtain(
     requires lives { has_begun (thread_lent clusters.old caller).life ≡ true }
     requires free { (thread_lent clusters.old caller).wait ≡ None }
     requires unarmed { times_armed (OfThread caller) (timers_lent clusters.old caller) ≡ 0 }
+    requires held { AreHeld (holdings clusters.old) (semaphores_of groups.old) }
     requires queue { (i : ℕ) → object_named (lent_both clusters.old groups.old) caller Semaphore id ≡ Some i → IsQueueOf clusters.old groups.old (OfSemaphore i) }
     ensures { (s : ScenarioView) → DoesBoth s (λ k. semaphore_obtain k caller id wish) result clusters.old groups.old clusters.new groups.new }
 {
@@ -171,7 +206,7 @@ fn update_waiters(clusters: &[ClusterPart], groups: &mut [GroupPart], index: u16
 {
     for at in 0..MOST_OBJECTS {
         match waiter(groups, index, at) {
-            None => {}
+            None => return,
             Some(thread) => {
                 let prio = prio_at_home(clusters, thread);
                 semaphores::reorder(groups, index, thread, prio);
@@ -206,10 +241,12 @@ fn release_at(
     requires queue { IsQueueOf clusters.old groups.old (OfSemaphore index) }
     ensures { (s : ScenarioView) → DoesBoth s (λ k. released_at k index (releasing caller (up_to_date k (semaphore_at k index)))) result clusters.old groups.old clusters.new groups.new }
 {
+    let before = owner(groups, index);
     if semaphores::serves(groups, index, caller) {
         bring_up_to_date(clusters, groups, index);
     }
     let reply = semaphores::release(groups, index, caller);
+    note(clusters, groups, index, &before);
     wake_all(clusters, wakes_of(groups, index));
     answered(reply)
 }

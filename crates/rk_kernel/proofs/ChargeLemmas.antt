@@ -19,6 +19,7 @@ use Rattle.rk_model.proofs.BooleanLemmas.{and_front}
 use Rattle.rk_model.proofs.IndexLemmas.{nth-with_other, nth-with_same, length-with_nth}
 use Rattle.rk_parts.specs.Threads.{own_standing}
 use Rattle.rk_parts.specs.declared.parts.AllParts.{AllParts}
+use Rattle.rk_parts.specs.Holdings.{holdings}
 use Rattle.rk_parts.specs.Joined.{plain_of, threads_of, thread_lent}
 use Rattle.rk_parts.specs.Lent.{AreLaid, Frame, frame, layouts}
 use Rattle.rk_parts.specs.Noted.{AreNoted}
@@ -42,11 +43,12 @@ pub record IsCharged (k : Plain) (p : ℕ) (all old : AllParts) : Type 0 where
   pub threads : (t : ℕ) → nth no_thread (threads_of all.clusters) t ≡ charged_by k p t
   pub rest : plain_of all ≡ (let n : Plain = record k { threads = threads_of all.clusters } in n)
   pub kept : frame all.clusters ≡ frame old.clusters
+  pub held : holdings all.clusters ≡ holdings old.clusters
   pub noted : AreNoted (length old.scenario.clusters) all.clusters
   pub others : untouched all ≡ untouched old
 
 pub none_charged : (all : AllParts) → AreNoted (length all.scenario.clusters) all.clusters → IsCharged (plain_of all) 0 all all
-none_charged all noted = record { places = refl; threads = λ t. refl; rest = refl; kept = refl; noted = noted; others = refl }
+none_charged all noted = record { places = refl; threads = λ t. refl; rest = refl; kept = refl; held = refl; noted = noted; others = refl }
 
 -- The parts are laid still as parts of the state.
 pub laid_charged : (k : Plain) (p : ℕ) (all old : AllParts) → AreLaid old.scenario.clusters (layouts old.clusters) → IsCharged k p all old → AreLaid all.scenario.clusters (layouts all.clusters)
@@ -117,9 +119,9 @@ running_charged k p all old q is =
 
 -- the thread of one processor more is charged, where the processor runs one
 pub one_charged : (k : Plain) (p u : ℕ) (all next old : AllParts) (thread : Thread) → RunOnce k → length k.threads ≡ 64 → IsCharged k p all old → Runs u ≡ running (plain_of all) p → 1 ≤ u → u ≤ 64 → thread ≡ charged all.scenario (nth no_thread (threads_of all.clusters) u) →
-    plain_of next ≡ (let n : Plain = record (plain_of all) { threads = with_nth (threads_of all.clusters) u thread } in n) → frame next.clusters ≡ frame all.clusters →
+    plain_of next ≡ (let n : Plain = record (plain_of all) { threads = with_nth (threads_of all.clusters) u thread } in n) → frame next.clusters ≡ frame all.clusters → holdings next.clusters ≡ holdings all.clusters →
     AreNoted (length old.scenario.clusters) next.clusters → untouched next ≡ untouched all → IsCharged k (p + 1) next old
-one_charged k p u all next old thread once size is does low high made put kept noted others =
+one_charged k p u all next old thread once size is does low high made put kept held noted others =
     let runs : running k p ≡ Runs u = sym (running_charged k p all old p is) ∙ sym does in
     let places : threads_of next.clusters ≡ with_nth (threads_of all.clusters) u thread = ap (λ (n : Plain). n.threads) put in
     let before : runs_from k u 0 p ≡ false = none_before k p u once runs p (omega arith) in
@@ -133,6 +135,7 @@ one_charged k p u all next old thread once size is does low high made put kept n
           ap (λ (ts : List Thread). nth no_thread ts t) places ∙ by t (u == t) refl value places ∙ ap (λ b. cond b (charged k.scenario (thread_at k t)) (thread_at k t)) (sym here));
       rest = put ∙ ap (λ (n : Plain). (let m : Plain = record n { threads = with_nth (threads_of all.clusters) u thread } in m)) is.rest ∙ ap (λ (ts : List Thread). (let m : Plain = record k { threads = ts } in m)) (sym places);
       kept = kept ∙ is.kept;
+      held = held ∙ is.held;
       noted = noted;
       others = others ∙ is.others;
     }
@@ -167,6 +170,7 @@ none_more_charged k p all old view is does none = record {
       is.threads t ∙ ap (λ b. cond b (charged k.scenario (thread_at k t)) (thread_at k t)) (sym here));
   rest = is.rest;
   kept = is.kept;
+  held = is.held;
   noted = is.noted;
   others = is.others;
 }

@@ -25,6 +25,7 @@ use Rattle.rk_parts.specs.declared.parts.ClusterPart.{ClusterPart}
 use Rattle.rk_parts.specs.declared.parts.GroupPart.{GroupPart}
 use Rattle.rk_parts.specs.declared.parts.AllParts.{AllParts}
 use Rattle.rk_parts.specs.Threads.{own_standing}
+use Rattle.rk_parts.specs.Holdings.{holdings}
 use Rattle.rk_parts.specs.Joined.{joined, placed_in, lives_in, numbered, present_of, threads_of, plain_of, thread_lent, timers_lent}
 use Rattle.rk_parts.specs.Lent.{found_in, AreLaid, Layout, layout, layouts, layout_at, lives_at, Stored, stored_in, Frame, frame, TakesDue}
 use Rattle.rk_parts.specs.Noted.{no_part, part_at, key_of, IsKeyed, AreNoted, settled_part, bare}
@@ -43,7 +44,8 @@ use Rattle.rk_directives.proofs.GentleChangeLemmas.{gentle_same, gentle_but, in_
 use Rattle.rk_directives.proofs.PeriodSoundLemmas.{fits_pass, times-dues, live_within}
 use Rattle.rk_directives.proofs.PeriodsKeptLemmas.{kept_sound, keeps_then, keeps_taken, keeps_end_wait}
 use Rattle.rk_kernel.proofs.PeriodEndLemmas.{taken_timers, ended_clusters, gentle_taken, passes, passed_left, passed_present, passed_settles}
-use Rattle.rk_directives.proofs.DirectiveLemmas.TasksLemmas.{lives_within}
+use Rattle.rk_parts.proofs.PutLemmas.{lives_within}
+use Rattle.rk_directives.proofs.KeptHoldingLemmas.{still_held}
 use Rattle.rk_period.specs.Periods.{Fits}
 use Rattle.rk_kernel.proofs.SoundSettlingLemmas.{timers-settled_from}
 use Rattle.rk_kernel.proofs.PartsSettledLemmas.{part_found, count_clusters, whole_kept, AreSettled, settled}
@@ -254,6 +256,7 @@ rings before after groups groups' who t thread reply whose is so_far ends s =
           (ends s).state table laid ∙ ap (end_wait (joined s table before groups) t) same ∙ ap (rung (joined s table before groups)) (sym whose);
       kept = (ends s).kept;
       framed = (ends s).framed;
+      held = (ends s).held;
     }
 
 -- A period's timer rings where its end passes.
@@ -262,6 +265,7 @@ rings_end before after groups groups' who i whose passes s = record {
   state = λ table laid. (passes s).state table laid ∙ ap (rung (joined s table before groups)) (sym whose);
   kept = (passes s).kept;
   framed = (passes s).framed;
+  held = (passes s).held;
 }
 
 -- a thread that lives in a part is the one that all of them hold
@@ -312,10 +316,10 @@ noted_same counts old new count laid kept same noted = record {
   here : (at : ℕ) → stored_in (part_at new at) ≡ stored_in (part_at old at)
   here at = same_stored old new at (ap (λ (f : Frame). f.stored) kept)
 
--- parts that stand for the same state, with the same frame, are ready as before
-pub ready_same : (all : AllParts) (new : List ClusterPart) → IsReady all → plain_of (record all { clusters = new }) ≡ plain_of all → frame new ≡ frame all.clusters → IsReady (record all { clusters = new })
-ready_same all new ready same kept = record {
-  whole = whole_kept all (record all { clusters = new }) ready.whole (ap (λ (n : Plain). n.present) same) kept refl;
+-- parts that stand for the same state, with the same frame and holdings, are ready as before
+pub ready_same : (all : AllParts) (new : List ClusterPart) → IsReady all → plain_of (record all { clusters = new }) ≡ plain_of all → frame new ≡ frame all.clusters → holdings new ≡ holdings all.clusters → IsReady (record all { clusters = new })
+ready_same all new ready same kept held = record {
+  whole = whole_kept all (record all { clusters = new }) ready.whole (ap (λ (n : Plain). n.present) same) kept held refl refl;
   sound = subst IsSound (sym same) ready.sound;
   noted = noted_same all.scenario.clusters all.clusters new (length all.scenario.clusters) ready.whole.laid kept (ap (λ (n : Plain). n.threads) same) ready.noted;
 }
@@ -333,6 +337,7 @@ fired all taken after new groups c x ready known some takes rings done =
       state = expired k (plain_of (record all { clusters = taken })) (plain_of mid) c x (takes.state all.scenario all.table.names all.groups known) (rings.state all.table.names laid);
       laid = subst (AreLaid all.scenario.clusters) (sym (ap (λ (f : Frame). f.layouts) rings.kept)) laid;
       kept = ap (λ (f : Frame). f.stored) (rings.kept ∙ takes.kept);
+      held = rings.held (still_held all.clusters taken all.groups all.groups takes.held (λ i. refl) ready.whole.held);
       rest = λ i. record { scenario = all.scenario; groups = rings.framed i; time = all.table.present };
     })
     done

@@ -9,6 +9,7 @@ use Rattle.rk_model.specs.Limits.{IsWithinLimits}
 use Rattle.rk_parts.specs.declared.parts.ClusterPart.{ClusterPart}
 use Rattle.rk_parts.specs.declared.parts.GroupPart.{GroupPart}
 use Rattle.rk_parts.specs.declared.parts.AllParts.{AllParts}
+use Rattle.rk_parts.specs.Holdings.{holdings}
 use Rattle.rk_parts.specs.Joined.{joined, plain_of}
 use Rattle.rk_parts.specs.Lent.{number_in, AreLaid, layouts, stored}
 use Rattle.rk_parts.specs.Noted.{AreNoted, settled_part, bare}
@@ -17,6 +18,7 @@ use Rattle.rk_parts.proofs.WholeLemmas.{lent_whole}
 use Rattle.rk_kernel.specs.Ready.{IsReady}
 use Rattle.rk_directives.specs.Sound.{IsSound, CanSettle}
 use Rattle.rk_kernel.proofs.OpeningLemmas.{sound_vacant, started_settles}
+use Rattle.rk_directives.proofs.KeptHoldingLemmas.{still_held}
 use Rattle.rk_kernel.proofs.PartsSettledLemmas.{IsChanged, settled}
 
 -- All parts of the state in which there is no task yet.
@@ -49,6 +51,7 @@ pub record HaveBegun (s : Scenario) (all : AllParts) (parts : List ClusterPart) 
   pub started : (table : Table) (groups : List GroupPart) → joined s table parts groups ≡ record (joined s table all.clusters groups) { threads = places 64 (map (begun s) s.inits) }
   pub laid : AreLaid s.clusters (layouts parts)
   pub kept : stored parts ≡ stored all.clusters
+  pub held : holdings parts ≡ holdings all.clusters
   pub named : names ≡ record no_objects { tasks = begun_names s.inits }
 
 -- all parts with other ones of the clusters and another table
@@ -79,6 +82,7 @@ opened s all parts new names within stand begin done =
       state = plain_begun s all parts names stand begin;
       laid = subst (λ (t : Scenario). AreLaid t.clusters (layouts parts)) (sym (same_scenario s all stand)) begin.laid;
       kept = begin.kept;
+      held = still_held all.clusters parts all.groups all.groups begin.held (λ i. refl) stand.whole.held;
       rest = refl;
     } in
     let is = settled all (with_parts all parts names) new (started s) [] (ready_vacant s all within stand) changed done in

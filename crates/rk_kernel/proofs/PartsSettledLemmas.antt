@@ -8,7 +8,8 @@ use Rattle.rk_model.specs.Scheduling.Settling.{settle}
 use Rattle.rk_parts.specs.declared.parts.ClusterPart.{ClusterPart}
 use Rattle.rk_parts.specs.declared.parts.AllParts.{AllParts}
 use Rattle.rk_parts.specs.declared.processors.Calling.{Calling}
-use Rattle.rk_parts.specs.Joined.{present_of, plain_of}
+use Rattle.rk_parts.specs.Holdings.{AreHeld, holdings}
+use Rattle.rk_parts.specs.Joined.{present_of, plain_of, semaphores_of}
 use Rattle.rk_parts.specs.Lent.{number_in, AreLaid, layouts, Stored, stored_in, stored, Frame, frame}
 use Rattle.rk_parts.specs.Noted.{settled_part, bare}
 use Rattle.rk_parts.specs.Whole.{AreWhole, ticks_of}
@@ -20,6 +21,7 @@ use Rattle.rk_parts.proofs.PutLemmas.{length_clusters}
 use Rattle.rk_parts.proofs.SettledPartLemmas.{same_stored}
 use Rattle.rk_parts.proofs.WholeLemmas.{Keeps, lent_whole, ticks_framed, semaphores_framed, barriers_framed, partitions_framed, periods_framed, whole_settled, plain_settled, all_noted_settled}
 use Rattle.rk_directives.specs.Does.{Untouched, untouched}
+use Rattle.rk_directives.proofs.KeptHoldingLemmas.{same_owners, still_held}
 use Rattle.rk_kernel.specs.Ready.{IsReady}
 use Rattle.rk_directives.specs.Sound.{IsSound, CanSettle}
 use Rattle.rk_kernel.proofs.ReadyQueueLemmas.{sound_lines}
@@ -49,9 +51,9 @@ least_within all (Some calling) ready found = (found.0, omega (arith, found.1, f
 pub part_found : (all : AllParts) (c : ℕ) → IsReady all → c < length all.scenario.clusters → number_in all.clusters c ≡ Some c
 part_found all c ready known = lent_whole all c ready.whole (few_clusters all ready) known
 
--- All parts are whole still where they keep their frame and the present tick, and what no directive touches is as before.
-pub whole_kept : (old all : AllParts) → AreWhole old → present_of all.clusters ≡ present_of old.clusters → frame all.clusters ≡ frame old.clusters → untouched all ≡ untouched old → AreWhole all
-whole_kept old all whole present kept rest =
+-- All parts are whole still where they keep their frame, their holdings, their semaphores and the present tick, and what no directive touches is as before.
+pub whole_kept : (old all : AllParts) → AreWhole old → present_of all.clusters ≡ present_of old.clusters → frame all.clusters ≡ frame old.clusters → holdings all.clusters ≡ holdings old.clusters → semaphores_of all.groups ≡ semaphores_of old.groups → untouched all ≡ untouched old → AreWhole all
+whole_kept old all whole present kept held semaphores rest =
     let lie : layouts all.clusters ≡ layouts old.clusters = ap (λ (f : Frame). f.layouts) kept in
     let store : stored all.clusters ≡ stored old.clusters = ap (λ (f : Frame). f.stored) kept in
     let same : all.scenario ≡ old.scenario = ap (λ (u : Untouched). u.scenario) rest in
@@ -64,6 +66,7 @@ whole_kept old all whole present kept rest =
       semaphores = semaphores_framed old.groups all.groups framed whole.semaphores;
       partitions = partitions_framed old.groups all.groups framed whole.partitions;
       periods = periods_framed old.groups all.groups framed whole.periods;
+      held = still_held old.clusters all.clusters old.groups all.groups held (same_owners old.groups all.groups semaphores) whole.held;
       time = record {
         clusters = ap (λ (ss : List Stored). ticks_of ss) store ∙ whole.time.clusters ∙ ap (replicate 4) (sym present);
         groups = ticks_framed old.groups all.groups framed ∙ whole.time.groups ∙ ap (replicate 4) (sym present);
@@ -71,18 +74,20 @@ whole_kept old all whole present kept rest =
       };
     }
 
--- All parts after a change of the state that can settle: they are laid as parts of a state, and what they store and what no directive touches is as before.
+-- All parts after a change of the state that can settle: they are laid as parts of a state, each semaphore is held by its owner, and what they store and what no directive touches is as before.
 pub record IsChanged (before mid : AllParts) (next : Plain) : Type 0 where
   pub settles : CanSettle (plain_of before) next
   pub state : plain_of mid ≡ next
   pub laid : AreLaid before.scenario.clusters (layouts mid.clusters)
   pub kept : stored mid.clusters ≡ stored before.clusters
+  pub held : AreHeld (holdings mid.clusters) (semaphores_of mid.groups)
   pub rest : untouched mid ≡ untouched before
 
 keeps : (before mid : AllParts) (next : Plain) → IsChanged before mid next → Keeps before mid
 keeps before mid next is = record {
   laid = is.laid;
   kept = is.kept;
+  held = is.held;
   scenario = ap (λ (u : Untouched). u.scenario) is.rest;
   groups = ap (λ (u : Untouched). u.groups) is.rest;
   table = ap (λ (u : Untouched). u.time) is.rest;

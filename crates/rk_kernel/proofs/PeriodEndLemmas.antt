@@ -33,7 +33,7 @@ use Rattle.rk_directives.proofs.TieLemmas.{times-taken}
 use Rattle.rk_directives.proofs.TimerLemmas.{timers_of, times-without_due}
 use Rattle.rk_directives.proofs.PeriodSoundLemmas.{counted_passed, due_here, one_taken, dues-taken_other, timers_put, armed_here, armed_other, threads_armed, IsAlike, same_thread, one_changed, live_within}
 use Rattle.rk_directives.proofs.DirectiveLemmas.PeriodsLemmas.{gentle_put_period, gentle_arm_period}
-use Rattle.rk_directives.proofs.DirectiveLemmas.TasksLemmas.{lives_within}
+use Rattle.rk_parts.proofs.PutLemmas.{lives_within}
 
 -- ---- a timer is taken out
 

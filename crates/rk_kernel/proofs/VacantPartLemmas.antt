@@ -1,11 +1,12 @@
 -- The parts of a state in which there is no task yet.
-use Rattle.std.proofs.Common.{◌≡◌, ℕ, zero, suc, ◌+◌, ◌<◌, ◌≤◌, List, [], ◌∷◌, Bool, true, false, cond, ◌==◌, None, length, map, take, replicate, get_or, arith, refl, sym, ap, ◌∙◌, subst, ⊎_elim}
+use Rattle.std.proofs.Common.{◌≡◌, ℕ, zero, suc, ◌+◌, ◌<◌, ◌≤◌, List, [], ◌∷◌, Bool, true, false, cond, ◌==◌, Option, None, length, map, take, replicate, get_or, arith, refl, sym, ap, ◌∙◌, subst, ⊎_elim}
 use Rattle.std.proofs.lemmas.Bool.{false≢true, cases_lt}
 use Rattle.std.proofs.lemmas.List.{length-replicate, length-map, get_or-map, get_or_past, ext_get_or}
 use Rattle.rk_model.specs.declared.scenario.Scenario.{Scenario}
 use Rattle.rk_model.specs.declared.settling.Standing.{Standing}
 use Rattle.rk_model.specs.declared.state.Thread.{Thread}
-use Rattle.rk_model.specs.State.{no_thread, no_semaphore, no_barrier, no_partition, no_period}
+use Rattle.rk_model.specs.Lists.{nth}
+use Rattle.rk_model.specs.State.{SemaphoreState, no_thread, no_semaphore, no_barrier, no_partition, no_period}
 use Rattle.rk_model.specs.Directives.Objects.{has_begun}
 use Rattle.rk_model.specs.Scheduling.Priorities.{no_standing}
 use Rattle.rk_model.specs.Histories.{places, free_cluster, vacant}
@@ -20,8 +21,10 @@ use Rattle.rk_signal.specs.Barriers.{no_stored}
 use Rattle.rk_parts.specs.Joined.{listed, cluster_of, placed_in, lives_in, held, numbered, present_of, threads_of, semaphore_group, semaphore_held, semaphores_of, barrier_of, barrier_group, barrier_held, barriers_of, partition_group, partition_held, partitions_of, period_group, period_held, periods_of, clusters_of, clusters_by, plain_of}
 use Rattle.rk_parts.specs.Lent.{AreLaid, layouts, stored}
 use Rattle.rk_parts.specs.Noted.{no_part, part_at, standings_in, key_of, IsKeyed, AreNoted, bare}
+use Rattle.rk_parts.specs.Holdings.{AreHeld, first_one, holder, holdings, no_holdings}
 use Rattle.rk_parts.specs.Whole.{ticks_of, ticks_in, AreWhole}
 use Rattle.rk_parts.proofs.ListedLemmas.{length-listed, get_or-listed}
+use Rattle.rk_parts.proofs.MappedPartLemmas.{mapped_kept}
 use Rattle.rk_parts.proofs.HeldLemmas.{held_nowhere, lives_nowhere, no_part_lives}
 use Rattle.rk_parts.proofs.LayoutLemmas.{Lie, laid}
 use Rattle.rk_parts.proofs.LentTimerLemmas.{numbered_found}
@@ -198,6 +201,24 @@ periods_vacant : (groups : List GroupPart) → groups ≡ vacant_groups → peri
 unfolding periods_of
 periods_vacant groups made = ap (λ (gs : List GroupPart). listed (period_held gs) 1 64) made ∙ listed_no no_period (period_held vacant_groups) 1 64 no_period_held
 
+-- ---- holdings
+
+none_first : (o rest : Option ℕ) → o ≡ None → rest ≡ None → first_one o rest ≡ None
+none_first o rest here more = ap (λ x. first_one x rest) here ∙ more
+
+-- no thread holds a semaphore, and none owns one
+held_vacant : (counts : List ℕ) (parts : List ClusterPart) (groups : List GroupPart) → map bare parts ≡ vacant_parts counts → groups ≡ vacant_groups → AreHeld (holdings parts) (semaphores_of groups)
+held_vacant counts parts groups clusters made = λ i.
+    ap (λ hs. holder hs i) holds
+    ∙ none_first _ _ (none i) (none_first _ _ (none i) (none_first _ _ (none i) (none_first _ _ (none i) refl)))
+    ∙ sym (ap (λ (xs : List SemaphoreState). (nth no_semaphore xs i).owner) (semaphores_vacant groups made) ∙ ap (λ (x : SemaphoreState). x.owner) (nth_replicate no_semaphore 64 i))
+  where
+    holds : holdings parts ≡ no_holdings ∷ no_holdings ∷ no_holdings ∷ no_holdings ∷ []
+    holds = sym (mapped_kept (λ (p : ClusterPart). p.holdings) bare (λ p. refl) parts) ∙ ap (λ (ps : List ClusterPart). holdings ps) clusters
+
+    none : (i : ℕ) → nth None no_holdings i ≡ None
+    none i = nth_replicate None 64 i
+
 -- ---- the parts that were made
 
 -- All parts as they are made, where no task was started yet.
@@ -238,6 +259,7 @@ whole_made s all made =
       semaphores = ap (map semaphore_group) made.groups;
       partitions = ap (map partition_group) made.groups;
       periods = ap (map period_group) made.groups;
+      held = held_vacant s.clusters all.clusters all.groups made.clusters made.groups;
       time = record {
         clusters = ticks ∙ ap (replicate 4) (sym present);
         groups = ap (λ (gs : List GroupPart). ticks_in gs) made.groups ∙ ap (replicate 4) (sym present);

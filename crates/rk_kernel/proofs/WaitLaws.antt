@@ -10,14 +10,13 @@ use Rattle.rk_model.specs.declared.state.Wait.TheVariants.{ForTime, ForEvents, A
 use Rattle.rk_model.specs.Lists.{nth, times}
 use Rattle.rk_model.specs.State.{Plain, ClusterState, SemaphoreState, no_cluster, no_thread, no_semaphore, thread_at, semaphore_at}
 use Rattle.rk_model.specs.Directives.Waits.{OfSemaphore, object_of_wait, is_for, arrivals_in}
-use Rattle.rk_model.specs.Scheduling.Chains.{chain, chain_on, ends_by, ends_on, reaches, owner_awaited, waits_on}
+use Rattle.rk_model.specs.Scheduling.Chains.{ends_by, ends_on, owner_awaited, waits_on}
 use Rattle.rk_model.specs.Scheduling.Timers.{times_armed}
 use Rattle.rk_model.proofs.BooleanLemmas.{same_number}
-use Rattle.rk_model.proofs.ChainLemmas.{no_return, ends_within}
-use Rattle.rk_model.proofs.CountLemmas.{times_none}
+use Rattle.rk_model.proofs.ChainLemmas.{times_once, ends_within}
 use Rattle.rk_kernel.specs.SchedulingLaws.{timers_of, HasTies, WaitsAndQueuesAgree, Owns, OwnersLiveAndNoneWaitsForItsOwn, HasAnEnd, EveryChainOfWaitsEnds}
 use Rattle.rk_directives.specs.Sound.{IsSound, AllSound, may_time_out, is_asleep}
-use Rattle.rk_directives.proofs.DirectiveLemmas.TasksLemmas.{lives_within}
+use Rattle.rk_parts.proofs.PutLemmas.{lives_within}
 use Rattle.rk_directives.proofs.TieLemmas.{stands_at}
 use Rattle.rk_kernel.proofs.HistoryLemmas.{sound_after}
 
@@ -102,18 +101,6 @@ among k t u sound on = (let seat = stands_at no_thread (λ (x : Thread). awaits_
   by (Some (ForPeriod j)) e = let no : ⊥ = cc in absurd no
   by (Some (ForSemaphore j)) e = let seat = lives_within k.threads u (sound.chained.owners j u e) in (omega (arith, seat.0), omega (arith, seat.1, sound.places))
 
--- a thread stands at most once in a chain that ends
-once_in : (step : ℕ → Option ℕ) (n t u : ℕ) → ends_by step n t ≡ true → times u (chain step n t) ≤ 1
-once_in step zero t u ends = absurd (false≢true ends)
-once_in step (suc n) t u ends = on (λ v. once_in step n v u) (step t) refl ends (t == u) refl where
-  on : ((v : ℕ) → ends_by step n v ≡ true → times u (chain step n v) ≤ 1) → (next : Option ℕ) → step t ≡ next → ends_on (ends_by step n) next ≡ true → (b : Bool) → (t == u) ≡ b → cond b 1 0 + times u (chain_on (chain step n) next) ≤ 1
-  on rest None e ends true at = omega arith
-  on rest None e ends false at = omega arith
-  on rest (Some v) e ends false at = omega (arith, rest v ends)
-  on rest (Some v) e ends true at =
-      let unmet : reaches step n v u ≡ false = subst (λ w. reaches step n v w ≡ false) (same_number t u at) (no_return step n t v e ends) in
-      omega (arith, times_none u (chain step n v) unmet)
-
 -- The chain of each thread ends within as many threads as there are.
 ends_soon : (k : Plain) (t : ℕ) → IsSound k → ends_by (waits_on k) 64 t ≡ true
 ends_soon k t sound = by (waits_on k t) refl where
@@ -122,7 +109,7 @@ ends_soon k t sound = by (waits_on k t) refl where
   by (Some u) e = ends_within (waits_on k) 64 t (λ v w _ on. (among k v w sound on).1) (among k t u sound e).0 (sound.chained.ends t)
 
 has_an_end : (k : Plain) (t : ℕ) → IsSound k → HasAnEnd k t
-has_an_end k t sound = let ends = ends_soon k t sound in record { ends = ends; once = λ u. once_in (waits_on k) 64 t u ends }
+has_an_end k t sound = let ends = ends_soon k t sound in record { ends = ends; once = λ u. times_once (waits_on k) 64 t u ends }
 
 pub chains_end : EveryChainOfWaitsEnds
 chains_end s xs is legal t = has_an_end _ t (sound_after s xs is legal)

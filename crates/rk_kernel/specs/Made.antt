@@ -6,13 +6,14 @@ use Rattle.rk_model.specs.Text.Scenarios.{cpus_in}
 use Rattle.rk_cluster.specs.Clusters.{empty_cluster}
 use Rattle.rk_parts.specs.declared.parts.ClusterPart.{ClusterPart}
 use Rattle.rk_parts.specs.declared.parts.GroupPart.{GroupPart}
+use Rattle.rk_parts.specs.Holdings.{no_holdings}
 use Rattle.rk_places.specs.Stores.{none_live}
 use Rattle.rk_signal.specs.Barriers.{no_stored}
 use Rattle.rk_parts.specs.Threads.{no_threads}
 
 -- the part of a cluster without threads, of so many processors from a first on
 abbrev pub vacant_part : ℕ → ℕ → ℕ → ClusterPart
-vacant_part number first count = record { present = 0; lined = empty_cluster number first count; timers = []; threads = no_threads; moves = [] }
+vacant_part number first count = record { present = 0; lined = empty_cluster number first count; timers = []; threads = no_threads; holdings = no_holdings; moves = [] }
 
 -- the part of a cluster among clusters of so many processors each
 abbrev pub vacant_in : List ℕ → ℕ → ClusterPart

@@ -8,6 +8,7 @@ ghost use Rattle.rk_model.specs.Scheduling.Running.{least};
 ghost use Rattle.rk_model.specs.Scheduling.Ticks.{charged, charge_from, pass, rung, fire_cluster, fire_all};
 ghost use Rattle.rk_model.specs.Limits.{AreRunnable};
 ghost use Rattle.rk_parts.specs.Firing.{due_now, FiresFirst};
+ghost use Rattle.rk_parts.specs.Holdings.{holdings};
 ghost use Rattle.rk_parts.specs.Joined.{plain_of, threads_of};
 ghost use Rattle.rk_parts.specs.Lent.{frame};
 ghost use Rattle.rk_parts.specs.Noted.{AreNoted};
@@ -57,6 +58,7 @@ fn charge_all(all: &mut AllParts)
     requires once { RunOnce (plain_of all.old) }
     ensures charged { plain_of all.new ≡ record (plain_of all.old) { threads = charge_from (plain_of all.old) 1 (threads_of all.old.clusters) } }
     ensures kept { frame all.new.clusters ≡ frame all.old.clusters }
+    ensures held { holdings all.new.clusters ≡ holdings all.old.clusters }
     ensures noted { AreNoted (length all.old.scenario.clusters) all.new.clusters }
     ensures rest { untouched all.new ≡ untouched all.old }
 {

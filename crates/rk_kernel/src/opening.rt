@@ -9,6 +9,7 @@ ghost use Rattle.rk_model.specs.Histories.{begun, places, vacant, begun_names, o
 ghost use Rattle.rk_model.specs.Limits.{AreRunnable, IsWithinLimits};
 ghost use Rattle.rk_model.specs.Text.Scenarios.{cpus_in};
 ghost use Rattle.rk_parts.specs.declared.parts.GroupPart.{GroupPart as GroupView};
+ghost use Rattle.rk_parts.specs.Holdings.{holdings};
 ghost use Rattle.rk_parts.specs.Joined.{joined, plain_of, threads_of};
 ghost use Rattle.rk_parts.specs.Lent.{number_in, layouts, stored, AreLaid};
 ghost use Rattle.rk_parts.specs.Noted.{bare, AreNoted};
@@ -20,6 +21,7 @@ use rk_cluster::{Cluster, Moves};
 use rk_model::{Body, Class, Init, Items, Life, NoMemory, Scenario, Thread, ThreadIx, Wakes};
 use rk_partition::PartitionStore;
 use rk_parts::arrival::arrive;
+use rk_parts::holdings::Holdings;
 use rk_parts::lent::make;
 use rk_parts::parts::{AllParts, ClusterPart, GroupPart, TablePart};
 use rk_parts::settle::settle_parts;
@@ -87,6 +89,7 @@ fn make_cluster(alloc: Global, number: u8, first: u8, count: u8) -> Result<Clust
         lined: Cluster::new(alloc, number, first, count)?,
         timers: Wheel::new(alloc)?,
         threads: Threads::new(alloc)?,
+        holdings: Holdings::new(alloc)?,
         moves: Moves::new(alloc)?,
     })
 }
@@ -172,6 +175,7 @@ fn start_all(scenario: &Scenario, clusters: &mut [ClusterPart])
     ensures started { (table : TableView) (groups : List GroupView) → joined scenario.now table clusters.new groups ≡ record (joined scenario.now table clusters.old groups) { threads = places MOST_OBJECTS (map (begun scenario.now) scenario.now.inits) } }
     ensures laid { AreLaid scenario.now.clusters (layouts clusters.new) }
     ensures kept { stored clusters.new ≡ stored clusters.old }
+    ensures held { holdings clusters.new ≡ holdings clusters.old }
 {
     for at in 0..scenario.inits.len() {
         let thread = begin(scenario, &scenario.inits.at(at));

@@ -1,7 +1,7 @@
 -- Tests: booleans that come of comparisons, joined by and, or by or.
 use Rattle.std.specs.List.{list_any}
 use Rattle.rk_model.specs.Lists.{has}
-use Rattle.std.proofs.Common.{◌≡◌, ℕ, List, [], ◌∷◌, Bool, true, false, ◌&&◌, ◌||◌, ◌==◌, ◌⊎◌, inl, inr, arith, refl}
+use Rattle.std.proofs.Common.{◌≡◌, ℕ, List, [], ◌∷◌, Bool, true, false, ◌&&◌, ◌||◌, ◌==◌, ◌⊎◌, inl, inr, arith, refl, sym}
 use Rattle.std.proofs.lemmas.Bool.{false≢true}
 use Rattle.std.proofs.lemmas.Bool.Decides.{nat_tests}
 
@@ -33,6 +33,14 @@ or_front b h = rw h refl
 pub or_back : (a : Bool) {b : Bool} → b ≡ true → (a || b) ≡ true
 or_back true h = refl
 or_back false h = h
+
+pub neither_front : (a b : Bool) → (a || b) ≡ false → a ≡ false
+neither_front true b h = h
+neither_front false b h = refl
+
+pub neither_back : (a b : Bool) → (a || b) ≡ false → b ≡ false
+neither_back true b h = absurd (false≢true (sym h))
+neither_back false b h = h
 
 -- whether one of these numbers is this one
 pub any_has : (us : List ℕ) (t : ℕ) → list_any (λ u. u == t) us ≡ has us t

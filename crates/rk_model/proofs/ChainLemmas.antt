@@ -136,7 +136,7 @@ reached_in P step stays (suc n) u t here met = by (λ v. reached_in P step stays
   by rest (inr met) = on rest (step u) refl met
 
 -- a thread stands at most once in a chain that ends
-times_once : (step : ℕ → Option ℕ) (n u t : ℕ) → ends_by step n u ≡ true → times t (chain step n u) ≤ 1
+pub times_once : (step : ℕ → Option ℕ) (n u t : ℕ) → ends_by step n u ≡ true → times t (chain step n u) ≤ 1
 times_once step zero u t ends = absurd (false≢true ends)
 times_once step (suc n) u t ends = on (λ v. times_once step n v t) (step u) refl ends (u == t) refl where
   on : ((v : ℕ) → ends_by step n v ≡ true → times t (chain step n v) ≤ 1) → (next : Option ℕ) → step u ≡ next → ends_on (ends_by step n) next ≡ true → (b : Bool) → (u == t) ≡ b → cond b 1 0 + times t (chain_on (chain step n) next) ≤ 1

@@ -1,3 +1,6 @@
+ghost use Rattle.std.specs.Prelude.{◌≡◌};
+ghost use Rattle.rk_model.specs.Directives.Semaphores.{is_counting, is_binary, has_protocol, has_ceiling, is_ceiling, is_mrsp};
+
 use crate::waiting::Order;
 
 /// The kinds of semaphores.
@@ -13,6 +16,22 @@ pub enum SemKind {
     Binary,
 }
 
+impl SemKind {
+    /// Whether a semaphore of this kind counts.
+    pub fn is_counting(self) -> bool
+        ensures { result ≡ is_counting self }
+    {
+        matches!(self, SemKind::Counting)
+    }
+
+    /// Whether a semaphore of this kind has an owner or none.
+    pub fn is_binary(self) -> bool
+        ensures { result ≡ is_binary self }
+    {
+        matches!(self, SemKind::Binary)
+    }
+}
+
 /// By what a semaphore raises its owner's priority.
 #[derive(Clone, Copy, Debug, PartialEq, Eq)]
 pub enum Protocol {
@@ -25,6 +44,36 @@ pub enum Protocol {
     /// By its ceiling in each cluster, while those that wait for it spin and help its owner
     /// (`RTEMS_MULTIPROCESSOR_RESOURCE_SHARING`).
     Mrsp,
+}
+
+impl Protocol {
+    /// Whether it raises an owner's priority.
+    pub fn raises(self) -> bool
+        ensures { result ≡ has_protocol self }
+    {
+        !matches!(self, Protocol::NoProtocol)
+    }
+
+    /// Whether it has a ceiling.
+    pub fn has_ceiling(self) -> bool
+        ensures { result ≡ has_ceiling self }
+    {
+        matches!(self, Protocol::Ceiling | Protocol::Mrsp)
+    }
+
+    /// Whether it is that of ceiling semaphores.
+    pub fn is_ceiling(self) -> bool
+        ensures { result ≡ is_ceiling self }
+    {
+        matches!(self, Protocol::Ceiling)
+    }
+
+    /// Whether it is that of MrsP semaphores.
+    pub fn is_mrsp(self) -> bool
+        ensures { result ≡ is_mrsp self }
+    {
+        matches!(self, Protocol::Mrsp)
+    }
 }
 
 /// What a semaphore is to be made with.

@@ -2,6 +2,7 @@
 use Rattle.std.proofs.Common.{◌≡◌, ℕ, zero, suc, ◌<◌, List, [], ◌∷◌, Bool, true, false, length, map, take, refl, sym, ap, ◌∙◌, get_or, set, ⊎_elim}
 use Rattle.std.proofs.lemmas.Bool.{cases_lt}
 use Rattle.std.proofs.lemmas.List.{get_or-map, get_or_past, length-map}
+use Rattle.std.proofs.Math.Seq.{map-set_same}
 use Rattle.rk_model.specs.declared.limits.TheConstants.{MOST_OBJECTS}
 use Rattle.rk_model.specs.declared.state.Thread.{Thread}
 use Rattle.rk_model.specs.Lists.{nth, with_nth}
@@ -9,8 +10,9 @@ use Rattle.rk_model.specs.State.{no_thread}
 use Rattle.rk_model.specs.Directives.Objects.{has_begun}
 use Rattle.rk_model.specs.Text.Scenarios.{cpus_in}
 use Rattle.rk_parts.specs.declared.parts.ClusterPart.{ClusterPart}
+use Rattle.rk_parts.specs.Holdings.{holdings}
 use Rattle.rk_parts.specs.Joined.{placed_in, lives_in}
-use Rattle.rk_parts.specs.Lent.{outline, Layout, layout, layouts, layout_at, lives_at, AreLaid, Stored, stored_in, stored}
+use Rattle.rk_parts.specs.Lent.{outline, Layout, layout, layouts, layout_at, lives_at, AreLaid, stored_in, stored}
 use Rattle.rk_parts.specs.Noted.{no_part, part_at}
 
 -- ---- outlines
@@ -114,16 +116,15 @@ layouts_set [] at part = refl
 layouts_set (p ∷ ps) zero part = refl
 layouts_set (p ∷ ps) (suc at) part = ap (λ (ls : List Layout). layout p ∷ ls) (layouts_set ps at part)
 
--- a part that lies as the one before it
+-- a part that lies, stores or holds as the one before it
 pub layouts_same : (parts : List ClusterPart) (at : ℕ) (part : ClusterPart) → layout part ≡ layout (part_at parts at) → layouts (set parts at part) ≡ layouts parts
-layouts_same [] at part e = refl
-layouts_same (p ∷ ps) zero part e = ap (λ (l : Layout). l ∷ layouts ps) e
-layouts_same (p ∷ ps) (suc at) part e = ap (λ (ls : List Layout). layout p ∷ ls) (layouts_same ps at part e)
+layouts_same parts at part same = map-set_same layout parts at part no_part same
 
 pub stored_same : (parts : List ClusterPart) (at : ℕ) (part : ClusterPart) → stored_in part ≡ stored_in (part_at parts at) → stored (set parts at part) ≡ stored parts
-stored_same [] at part e = refl
-stored_same (p ∷ ps) zero part e = ap (λ (l : Stored). l ∷ stored ps) e
-stored_same (p ∷ ps) (suc at) part e = ap (λ (ls : List Stored). stored_in p ∷ ls) (stored_same ps at part e)
+stored_same parts at part same = map-set_same stored_in parts at part no_part same
+
+pub holdings_same : (parts : List ClusterPart) (at : ℕ) (part : ClusterPart) → part.holdings ≡ (part_at parts at).holdings → holdings (set parts at part) ≡ holdings parts
+holdings_same parts at part same = map-set_same (λ (p : ClusterPart). p.holdings) parts at part no_part same
 
 outlines_set : (xs : List Thread) (t : ℕ) (x : Thread) → outline x ≡ outline (nth no_thread xs t) → map outline (with_nth xs t x) ≡ map outline xs
 outlines_set xs zero x e = refl

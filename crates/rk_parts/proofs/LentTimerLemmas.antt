@@ -19,7 +19,7 @@ use Rattle.rk_parts.specs.Threads.{Threads}
 use Rattle.rk_parts.specs.Noted.{part_at}
 use Rattle.rk_parts.proofs.ListedLemmas.{get_or-listed, same_listed, set-listed}
 use Rattle.rk_parts.proofs.HeldLemmas.{found_here, found_later, found_nowhere, held_else, held_found, found_lives, found_within, lives_found}
-use Rattle.rk_parts.proofs.LayoutLemmas.{Lie, lie, layouts_same, stored_same}
+use Rattle.rk_parts.proofs.LayoutLemmas.{Lie, lie, layouts_same, stored_same, holdings_same}
 use Rattle.rk_parts.proofs.PutLemmas.{clusters_joined, present_same, part_is, thread_held}
 use Rattle.rk_parts.proofs.ReplaceLemmas.{number_is, number_within}
 
@@ -140,6 +140,7 @@ puts_timers parts at t change low high found = record {
       rw home at (state_retimed s table groups parts at (part_at parts at).lined.number change (number_found s.clusters parts at (part_at parts at).lined.number is within refl) known));
   threads = threads_else parts at (retimed (part_at parts at) (change (part_at parts at).timers)) refl;
   kept = retimed_kept parts at _;
+  held = holdings_same parts at _ refl;
 }
 
 -- the first timer that is due is taken out of the part of a cluster
@@ -147,6 +148,7 @@ pub takes_due : (parts : List ClusterPart) (at c : ℕ) → number_in parts c �
 takes_due parts at c found = record {
   state = λ s table groups known. state_retimed s table groups parts at c (without_due (present_of parts)) found known;
   kept = retimed_kept parts at _;
+  held = holdings_same parts at _ refl;
 }
 
 -- the timers in the part in which a thread is found

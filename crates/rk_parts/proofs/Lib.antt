@@ -16,6 +16,8 @@ pub mod StandingLemmas
 pub mod MarkLemmas
 pub mod SettlingLemmas
 pub mod KeyedLineLemmas
+pub mod MappedPartLemmas
+pub mod HoldingLemmas
 pub mod TickPartLemmas
 pub mod SettledPartLemmas
 pub mod WholeLemmas

@@ -23,7 +23,14 @@ use Rattle.rk_parts.specs.Threads.{Threads, own_standing}
 use Rattle.rk_parts.specs.Noted.{part_at, no_part, standings_in, key_of, IsKeyed, AreNoted}
 use Rattle.rk_parts.proofs.ListedLemmas.{get_or-listed, length-listed, same_listed, set-listed}
 use Rattle.rk_parts.proofs.HeldLemmas.{held_found, held_else, held_put, held_nowhere, found_lives, found_within}
-use Rattle.rk_parts.proofs.LayoutLemmas.{layout_put, layouts_same, stored_same, outline_same}
+use Rattle.rk_parts.proofs.LayoutLemmas.{layout_put, layouts_same, stored_same, holdings_same, outline_same}
+
+-- a thread that lives is one of these
+pub lives_within : (threads : List Thread) (u : ℕ) → has_begun (nth no_thread threads u).life ≡ true → (0 < u) × (u ≤ length threads)
+lives_within threads zero live = absurd (false≢true live)
+lives_within threads (suc i) live =
+    ⊎_elim (λ w. let low : 0 < suc i = omega arith in let high : suc i ≤ length threads = omega (arith, w) in (low, high))
+    (λ w. absurd (false≢true (rw (get_or_past threads i no_thread w) at live))) (cases_lt i (length threads))
 
 -- the thread of an index in the state that parts stand for
 pub thread_held : (parts : List ClusterPart) (t : ℕ) → 1 ≤ t → t ≤ 64 → thread_lent parts t ≡ held parts t
@@ -136,6 +143,7 @@ put_puts parts at t x low high found lives life home =
       clusters = λ i counts. clusters_same counts parts (set parts at now) (λ c. numbered_same counts parts at c now refl refl) i;
       present = present_same parts at now refl;
       kept = λ i. record { layouts = lies i; stored = keeps i };
+      held = holdings_same parts at now refl;
     }
 
 -- the part at a place, where one is another

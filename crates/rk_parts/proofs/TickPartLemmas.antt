@@ -6,14 +6,17 @@ use Rattle.rk_model.specs.declared.scenario.Scenario.{Scenario}
 use Rattle.rk_parts.specs.declared.parts.ClusterPart.{ClusterPart}
 use Rattle.rk_parts.specs.declared.parts.GroupPart.{GroupPart}
 use Rattle.rk_parts.specs.declared.parts.AllParts.{AllParts}
-use Rattle.rk_model.specs.State.{Plain, no_semaphore, no_barrier, no_partition, no_period}
-use Rattle.rk_parts.specs.Joined.{semaphore_group, semaphore_in, semaphores_of, barrier_group, barrier_in, barriers_of, partition_group, partition_in, partitions_of, period_group, period_in, periods_of, held_by, cluster_of, placed_in, lives_in, held, numbered, present_of, threads_of, clusters_of, clusters_by, plain_of}
-use Rattle.rk_parts.specs.Lent.{AreLaid, Layout, layout, layouts, stored}
+use Rattle.rk_model.specs.Lists.{nth}
+use Rattle.rk_model.specs.State.{Plain, SemaphoreState, no_semaphore, no_barrier, no_partition, no_period}
+use Rattle.rk_parts.specs.Holdings.{holdings}
+use Rattle.rk_parts.specs.Joined.{semaphore_group, semaphore_in, semaphores_of, barrier_group, barrier_in, barriers_of, partition_group, partition_in, partitions_of, period_group, period_in, periods_of, held_by, present_of, threads_of, clusters_of, plain_of}
+use Rattle.rk_parts.specs.Lent.{AreLaid, layout, layouts, stored}
 use Rattle.rk_parts.specs.Noted.{part_at, standings_in, key_of, IsKeyed, AreNoted}
 use Rattle.rk_parts.specs.Whole.{AreWhole, AreFour, ticks_of, ticks_in, at_tick, group_at_tick}
 use Rattle.rk_places.specs.Stores.{group_of}
 use Rattle.rk_parts.proofs.FoundGroupLemmas.{semaphores_same, barriers_same, partitions_same, periods_same}
-use Rattle.rk_parts.proofs.ListedLemmas.{same_listed}
+use Rattle.rk_parts.proofs.HoldingLemmas.{held_kept}
+use Rattle.rk_parts.proofs.MappedPartLemmas.{mapped_kept, LeavesThreads, threads_mapped, clusters_mapped}
 use Rattle.rk_parts.proofs.PutLemmas.{Ranked, keys_in}
 
 -- one more of a list is changed
@@ -25,29 +28,12 @@ one_mapped f xs i x next all within is done so_far =
     let d : map f (drop i xs) ≡ f x ∷ map f (drop (i + 1) xs) = ap (map f) (drop_more xs i x within) ∙ ap (λ y. f y ∷ map f (drop (i + 1) xs)) (sym is) in
     rw (a, b, append_assoc, done) (rw d at so_far)
 
-held_tick : (n : ℕ) (parts : List ClusterPart) (t : ℕ) → held (map (at_tick n) parts) t ≡ held parts t
-held_tick n [] t = refl
-held_tick n (p ∷ ps) t = ap (λ x. if lives_in p t then placed_in p t else x) (held_tick n ps t)
-
-numbered_tick : (n : ℕ) (counts : List ℕ) (parts : List ClusterPart) (c : ℕ) → numbered counts (map (at_tick n) parts) c ≡ numbered counts parts c
-numbered_tick n counts [] c = refl
-numbered_tick n counts (p ∷ ps) c = ap (λ rest. if p.lined.number == c then cluster_of p else rest) (numbered_tick n counts ps c)
-
-threads_tick : (n : ℕ) (parts : List ClusterPart) → threads_of (map (at_tick n) parts) ≡ threads_of parts
-unfolding threads_of
-threads_tick n parts = same_listed (held (map (at_tick n) parts)) (held parts) 1 64 (held_tick n parts)
-
-clusters_tick : (n : ℕ) (counts : List ℕ) (parts : List ClusterPart) → clusters_of counts (map (at_tick n) parts) ≡ clusters_of counts parts
-unfolding clusters_by
-clusters_tick n counts parts = same_listed (numbered counts (map (at_tick n) parts)) (numbered counts parts) 0 (length counts) (numbered_tick n counts parts)
+leaves : (n : ℕ) → LeavesThreads (at_tick n)
+leaves n = record { threads = λ p. refl; lined = λ p. refl; timers = λ p. refl }
 
 present_tick : (n m : ℕ) (parts : List ClusterPart) → length parts ≡ suc m → present_of (map (at_tick n) parts) ≡ n
 present_tick n m [] size = let no : ⊥ = cc in absurd no
 present_tick n m (p ∷ ps) size = refl
-
-layouts_tick : (n : ℕ) (parts : List ClusterPart) → layouts (map (at_tick n) parts) ≡ layouts parts
-layouts_tick n [] = refl
-layouts_tick n (p ∷ ps) = ap (λ (ls : List Layout). layout p ∷ ls) (layouts_tick n ps)
 
 ticks_tick : (n : ℕ) (parts : List ClusterPart) → ticks_of (stored (map (at_tick n) parts)) ≡ replicate (length parts) n
 ticks_tick n [] = refl
@@ -90,8 +76,8 @@ pub state_tick : (n : ℕ) (old new : AllParts) → AreWhole old → new.cluster
 state_tick n old new whole clusters groups scenario names =
     let tick : present_of new.clusters ≡ n = ap present_of clusters ∙ present_tick n 3 old.clusters whole.four in
     let cs : clusters_of new.scenario.clusters new.clusters ≡ clusters_of old.scenario.clusters old.clusters =
-    ap (λ (s : Scenario). clusters_of s.clusters new.clusters) scenario ∙ ap (λ (ps : List ClusterPart). clusters_of old.scenario.clusters ps) clusters ∙ clusters_tick n old.scenario.clusters old.clusters in
-    let ts : threads_of new.clusters ≡ threads_of old.clusters = ap (λ (ps : List ClusterPart). threads_of ps) clusters ∙ threads_tick n old.clusters in
+    ap (λ (s : Scenario). clusters_of s.clusters new.clusters) scenario ∙ ap (λ (ps : List ClusterPart). clusters_of old.scenario.clusters ps) clusters ∙ clusters_mapped (at_tick n) (leaves n) old.scenario.clusters old.clusters in
+    let ts : threads_of new.clusters ≡ threads_of old.clusters = ap (λ (ps : List ClusterPart). threads_of ps) clusters ∙ threads_mapped (at_tick n) (leaves n) old.clusters in
     let ss : semaphores_of new.groups ≡ semaphores_of old.groups = ap (λ (gs : List GroupPart). semaphores_of gs) groups ∙ semaphores_tick n old.groups in
     let bs : barriers_of new.groups ≡ barriers_of old.groups = ap (λ (gs : List GroupPart). barriers_of gs) groups ∙ barriers_tick n old.groups in
     let qs : partitions_of new.groups ≡ partitions_of old.groups = ap (λ (gs : List GroupPart). partitions_of gs) groups ∙ partitions_tick n old.groups in
@@ -106,11 +92,13 @@ whole_tick n old new whole clusters groups table scenario =
     record {
       four = ap (λ (ps : List ClusterPart). length ps) clusters ∙ length-map old.clusters (at_tick n) ∙ whole.four;
       numbers = λ c h. ap (λ (ps : List ClusterPart). (part_at ps c).lined.number) clusters ∙ tick_at (λ (p : ClusterPart). p.lined.number) n old.clusters c (λ p. refl) ∙ whole.numbers c h;
-      laid = subst (λ (s : Scenario). AreLaid s.clusters (layouts new.clusters)) (sym scenario) (subst (AreLaid old.scenario.clusters) (sym (ap (λ (ps : List ClusterPart). layouts ps) clusters ∙ layouts_tick n old.clusters)) whole.laid);
+      laid = subst (λ (s : Scenario). AreLaid s.clusters (layouts new.clusters)) (sym scenario) (subst (AreLaid old.scenario.clusters) (sym (ap (λ (ps : List ClusterPart). layouts ps) clusters ∙ mapped_kept layout (at_tick n) (λ p. refl) old.clusters)) whole.laid);
       groups = four_tick barrier_group n old.groups new.groups (λ g. refl) groups whole.groups;
       semaphores = four_tick semaphore_group n old.groups new.groups (λ g. refl) groups whole.semaphores;
       partitions = four_tick partition_group n old.groups new.groups (λ g. refl) groups whole.partitions;
       periods = four_tick period_group n old.groups new.groups (λ g. refl) groups whole.periods;
+      held = held_kept (holdings old.clusters) (holdings new.clusters) (semaphores_of old.groups) (semaphores_of new.groups) (ap (λ (ps : List ClusterPart). holdings ps) clusters ∙ mapped_kept (λ (p : ClusterPart). p.holdings) (at_tick n) (λ p. refl) old.clusters)
+          (λ i. ap (λ (ss : List SemaphoreState). (nth no_semaphore ss i).owner) (ap (λ (gs : List GroupPart). semaphores_of gs) groups ∙ semaphores_tick n old.groups)) whole.held;
       time = record {
         clusters = ap (λ (ps : List ClusterPart). ticks_of (stored ps)) clusters ∙ ticks_tick n old.clusters ∙ ap (λ m. replicate m n) whole.four ∙ ap (replicate 4) (sym tick);
         groups = ap (λ (gs : List GroupPart). ticks_in gs) groups ∙ groups_tick n old.groups ∙ ap (λ m. replicate m n) four ∙ ap (replicate 4) (sym tick);

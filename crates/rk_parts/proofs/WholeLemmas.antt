@@ -6,12 +6,14 @@ use Rattle.rk_model.specs.Scheduling.Settling.{settle}
 use Rattle.rk_parts.specs.declared.parts.ClusterPart.{ClusterPart}
 use Rattle.rk_parts.specs.declared.parts.GroupPart.{GroupPart}
 use Rattle.rk_parts.specs.declared.parts.AllParts.{AllParts}
-use Rattle.rk_parts.specs.Joined.{semaphore_group, barrier_group, partition_group, period_group, joined, present_of, plain_of}
+use Rattle.rk_parts.specs.Holdings.{AreHeld, holdings}
+use Rattle.rk_parts.specs.Joined.{semaphore_group, barrier_group, partition_group, period_group, joined, present_of, semaphores_of, plain_of}
 use Rattle.rk_parts.specs.Lent.{number_in, AreLaid, layouts, Stored, stored_in, stored}
 use Rattle.rk_parts.specs.Noted.{part_at, AreNoted, LinesHold, settled_part, bare}
 use Rattle.rk_parts.specs.Groups.{GroupFrame, group_frame, group_frames, holds_semaphores, holds_partitions, holds_periods, is_lent}
 use Rattle.rk_parts.specs.Whole.{ticks_of, ticks_in, AreFour, AreWhole}
 use Rattle.rk_parts.proofs.FoundGroupLemmas.{four_hold}
+use Rattle.rk_parts.proofs.HoldingLemmas.{holdings_settled, held_kept}
 use Rattle.rk_parts.proofs.LayoutLemmas.{lie}
 use Rattle.rk_parts.proofs.LentTimerLemmas.{number_found}
 use Rattle.rk_parts.proofs.SettledPartLemmas.{Settles, same_stored, part_settled, length_settled, layouts_settled, settled_joined, noted_settled}
@@ -86,10 +88,11 @@ present_first (p ∷ ps) = refl
 
 -- ---- a change and settling
 
--- All parts after a change: they are laid as parts of the state, and what they store and what no directive touches is as before.
+-- All parts after a change: they are laid as parts of the state, each semaphore is held by its owner, and what they store and what no directive touches is as before.
 pub record Keeps (before mid : AllParts) : Type 0 where
   pub laid : AreLaid before.scenario.clusters (layouts mid.clusters)
   pub kept : stored mid.clusters ≡ stored before.clusters
+  pub held : AreHeld (holdings mid.clusters) (semaphores_of mid.groups)
   pub scenario : mid.scenario ≡ before.scenario
   pub groups : group_frames mid.groups ≡ group_frames before.groups
   pub table : mid.table.present ≡ before.table.present
@@ -117,6 +120,7 @@ whole_settled before mid new last whole keeps done =
       semaphores = semaphores_framed before.groups mid.groups keeps.groups whole.semaphores;
       partitions = partitions_framed before.groups mid.groups keeps.groups whole.partitions;
       periods = periods_framed before.groups mid.groups keeps.groups whole.periods;
+      held = held_kept (holdings mid.clusters) (holdings new) (semaphores_of mid.groups) (semaphores_of mid.groups) (holdings_settled last mid.clusters new done) (λ i. refl) keeps.held;
       time = record {
         clusters = ticks ∙ whole.time.clusters ∙ ap (replicate 4) (sym present);
         groups = ticks_framed before.groups mid.groups keeps.groups ∙ whole.time.groups ∙ ap (replicate 4) (sym present);

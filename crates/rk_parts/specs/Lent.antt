@@ -1,6 +1,6 @@
 -- Where things stand among lent parts, how the parts lie, and what a change of them does.
 use Rattle.std.specs.Prelude.{ℕ, ◌+◌, ◌≡◌, ◌<◌, List, [], ◌∷◌, Bool, true, false, Option, Some, None, ◌==◌, map, length, take, if◌then◌else◌}
-use Rattle.std.specs.List.{slice_index_or}
+use Rattle.std.specs.List.{slice_index_or, AllByRecursion}
 use Rattle.rk_model.specs.declared.limits.TheConstants.{MOST_OBJECTS}
 use Rattle.rk_model.specs.declared.scenario.Scenario.{Scenario}
 use Rattle.rk_model.specs.declared.settling.Standing.{Standing}
@@ -16,6 +16,7 @@ use Rattle.rk_model.specs.Text.Scenarios.{cpus_in}
 use Rattle.rk_cluster.specs.Clusters.{Cluster}
 use Rattle.rk_parts.specs.declared.parts.ClusterPart.{ClusterPart}
 use Rattle.rk_parts.specs.declared.parts.GroupPart.{GroupPart}
+use Rattle.rk_parts.specs.Holdings.{holder, holdings, IsNotedIn}
 use Rattle.rk_parts.specs.Joined.{joined, lives_in, present_of, threads_of, clusters_by, thread_lent}
 
 abbrev pub one_more : Option ℕ → Option ℕ
@@ -98,30 +99,43 @@ pub record AreLaid (counts : List ℕ) (parts : List Layout) : Type 0 where
   pub count : (i : ℕ) → i < length parts → (layout_at parts i).count ≡ slice_index_or counts (layout_at parts i).number 0
   pub first : (i : ℕ) → i < length parts → (layout_at parts i).number < length counts → (layout_at parts i).first ≡ cpus_in (take (layout_at parts i).number counts)
 
--- The parts stand for the state with another thread at an index, and keep their frame.
+-- The parts stand for the state with another thread at an index, and keep their frame and their holdings.
 pub record Puts (old : List ClusterPart) (t : ℕ) (thread : Thread) (new : List ClusterPart) : Type 0 where
   pub threads : threads_of new ≡ with_nth (threads_of old) t thread
   pub clusters : clusters_by new ≡ clusters_by old
   pub present : present_of new ≡ present_of old
   pub kept : frame new ≡ frame old
+  pub held : holdings new ≡ holdings old
 
--- Where these are parts of a state, they stand for that state with another thread at an index; they store the same, and are laid as before where its home is a cluster of the state.
+-- Where these are parts of a state, they stand for that state with another thread at an index; they store and hold the same, and are laid as before where its home is a cluster of the state.
 pub record Replaces (old : List ClusterPart) (t : ℕ) (thread : Thread) (new : List ClusterPart) : Type 0 where
   pub state : (s : Scenario) (table : Table) (groups : List GroupPart) → AreLaid s.clusters (layouts old) → joined s table new groups ≡ put_thread (joined s table old groups) t thread
   pub laid : (counts : List ℕ) → AreLaid counts (layouts old) → (has_begun thread.life ≡ true → thread.home < length counts) → AreLaid counts (layouts new)
   pub kept : stored new ≡ stored old
+  pub held : holdings new ≡ holdings old
 
 -- the state with other timers in a cluster
 abbrev pub with_timers : Plain → ℕ → (List Armed → List Armed) → Plain
 with_timers k c change = put_cluster k c (record (cluster_at k c) { timers = change (cluster_at k c).timers })
 
--- Where these are parts of a state, they stand for that state with changed timers in the home of a thread; and they keep their frame.
+-- Where these are parts of a state, they stand for that state with changed timers in the home of a thread; and they keep their frame and their holdings.
 pub record PutsTimers (old : List ClusterPart) (t : ℕ) (change : List Armed → List Armed) (new : List ClusterPart) : Type 0 where
   pub state : (s : Scenario) (table : Table) (groups : List GroupPart) → AreLaid s.clusters (layouts old) → joined s table new groups ≡ with_timers (joined s table old groups) (thread_lent old t).home change
   pub threads : threads_of new ≡ threads_of old
   pub kept : frame new ≡ frame old
+  pub held : holdings new ≡ holdings old
 
--- The parts stand for the state in which the first timer of a cluster that is due now is taken out; and they keep their frame.
+-- The parts stand for the state in which the first timer of a cluster that is due now is taken out; and they keep their frame and their holdings.
 pub record TakesDue (old : List ClusterPart) (c : ℕ) (new : List ClusterPart) : Type 0 where
   pub state : (s : Scenario) (table : Table) (groups : List GroupPart) → c < length s.clusters → joined s table new groups ≡ take_due (joined s table old groups) c
   pub kept : frame new ≡ frame old
+  pub held : holdings new ≡ holdings old
+
+-- The parts stand for the same state and keep their frame, and a semaphore is held by its owner, if it has one, in the part in which the owner lives and in no other; who holds another does so still.
+pub record NotesOwner (old : List ClusterPart) (i : ℕ) (owner : Option ℕ) (new : List ClusterPart) : Type 0 where
+  pub threads : threads_of new ≡ threads_of old
+  pub clusters : clusters_by new ≡ clusters_by old
+  pub present : present_of new ≡ present_of old
+  pub kept : frame new ≡ frame old
+  pub held : (j : ℕ) → holder (holdings new) j ≡ (if j == i then owner else holder (holdings old) j)
+  pub there : AllByRecursion (IsNotedIn i owner) new

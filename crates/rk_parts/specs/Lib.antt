@@ -1,5 +1,6 @@
 pub mod Threads
 pub mod Joined
+pub mod Holdings
 pub mod Lent
 pub mod Groups
 pub mod ClusterRegisters

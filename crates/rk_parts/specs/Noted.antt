@@ -30,6 +30,7 @@ no_part = record {
   lined = record { number = 0; first = 0; line = []; cpus = [] };
   timers = [];
   threads = record { places = []; stood = [] };
+  holdings = [];
   moves = [];
 }
 

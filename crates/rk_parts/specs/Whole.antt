@@ -3,7 +3,8 @@ use Rattle.std.specs.Prelude.{ℕ, ◌≡◌, ◌<◌, List, [], ◌∷◌, map,
 use Rattle.rk_parts.specs.declared.parts.ClusterPart.{ClusterPart}
 use Rattle.rk_parts.specs.declared.parts.GroupPart.{GroupPart}
 use Rattle.rk_parts.specs.declared.parts.AllParts.{AllParts}
-use Rattle.rk_parts.specs.Joined.{semaphore_group, barrier_group, partition_group, period_group, present_of}
+use Rattle.rk_parts.specs.Holdings.{AreHeld, holdings}
+use Rattle.rk_parts.specs.Joined.{semaphore_group, barrier_group, partition_group, period_group, present_of, semaphores_of}
 use Rattle.rk_parts.specs.Lent.{Stored, AreLaid, layouts, stored}
 use Rattle.rk_parts.specs.Noted.{part_at}
 
@@ -32,7 +33,7 @@ pub record AreOnTime (all : AllParts) : Type 0 where
 abbrev pub AreFour : (GroupPart → ℕ) → List GroupPart → Type 0
 AreFour number groups = map number groups ≡ 0 ∷ 1 ∷ 2 ∷ 3 ∷ []
 
--- These are all parts of a running kernel: those of the clusters 0 to 3, laid as parts of its state, and those of the groups 0 to 3; and they are on time.
+-- These are all parts of a running kernel: those of the clusters 0 to 3, laid as parts of its state, and those of the groups 0 to 3; each semaphore is held by its owner; and they are on time.
 pub record AreWhole (all : AllParts) : Type 0 where
   pub four : length all.clusters ≡ 4
   pub numbers : (c : ℕ) → c < 4 → (part_at all.clusters c).lined.number ≡ c
@@ -41,4 +42,5 @@ pub record AreWhole (all : AllParts) : Type 0 where
   pub semaphores : AreFour semaphore_group all.groups
   pub partitions : AreFour partition_group all.groups
   pub periods : AreFour period_group all.groups
+  pub held : AreHeld (holdings all.clusters) (semaphores_of all.groups)
   pub time : AreOnTime all

@@ -3,6 +3,7 @@
 
 pub mod arrival;
 pub mod groups;
+pub mod holdings;
 pub mod lent;
 pub mod partitions;
 pub mod parts;

@@ -2,6 +2,7 @@
 //!
 //! A call that is lent some of the cluster parts and group parts works on them alone.
 
+use crate::holdings::Holdings;
 use crate::table::Table;
 use crate::threads::Threads;
 use rk_cluster::{Cluster, Moves};
@@ -23,6 +24,8 @@ pub struct ClusterPart {
     pub timers: Wheel,
     /// A place for each of the 64 threads; there is no thread at those of other homes.
     pub threads: Threads,
+    /// Which semaphores those threads own.
+    pub holdings: Holdings,
     /// Room for what settling does to the threads of the cluster.
     pub moves: Moves,
 }

@@ -8,7 +8,6 @@ ghost use Rattle.rk_model.specs.Directives.Semaphores.{is_binary, is_free, is_fu
 ghost use Rattle.rk_model.specs.Directives.Waits.{bare, with_waiter, without_waiter};
 ghost use Rattle.rk_sem.specs.SemaphoreCalls.{obtained, reply_to_obtain, released, reply_to_release, serves, woken_by_release, woken_by_flush, reply_to_remove, woken_by_remove};
 
-use crate::judge::{is_binary, is_counting};
 use rk_model::limits::{MOST_COUNT, MOST_NESTING};
 use rk_model::{
     Caller, NoMemory, Order, Prio, Protocol, Reply, SemKind, SemSpec, Status, ThreadIx, Waiter,
@@ -109,11 +108,11 @@ impl Slot {
         requires { self.old.live ≡ false }
         ensures { self.new ≡ new_semaphore spec by }
     {
-        let is_owned = is_binary(spec.kind) && spec.count == 0;
+        let is_owned = spec.kind.is_binary() && spec.count == 0;
         self.semaphore = Some(Semaphore {
             kind: spec.kind,
             protocol: spec.protocol,
-            count: if is_binary(spec.kind) { 0 } else { spec.count },
+            count: if spec.kind.is_binary() { 0 } else { spec.count },
             owner: if is_owned { Some(by) } else { None },
             nesting: if is_owned { 1 } else { 0 },
         });
@@ -137,7 +136,7 @@ impl Slot {
         match self.semaphore {
             None => false,
             Some(semaphore) => {
-                if is_binary(semaphore.kind) {
+                if semaphore.kind.is_binary() {
                     semaphore.owner.is_none()
                 } else {
                     semaphore.count > 0
@@ -205,7 +204,7 @@ impl Slot {
         ensures { self.new ≡ taken thread self.old }
     {
         let semaphore = self.semaphore.as_mut().unwrap();
-        if is_binary(semaphore.kind) {
+        if semaphore.kind.is_binary() {
             semaphore.owner = Some(thread);
             semaphore.nesting = 1;
         } else {
@@ -296,7 +295,7 @@ impl Slot {
         requires { self.now.live ≡ true }
         ensures { result ≡ is_binary self.now.kind }
     {
-        is_binary(self.semaphore.as_ref().unwrap().kind)
+        self.semaphore.as_ref().unwrap().kind.is_binary()
     }
 
     /// Whether it counts, and its count is as great as it can be.
@@ -305,7 +304,7 @@ impl Slot {
         ensures { result ≡ is_full self.now }
     {
         let semaphore = self.semaphore.as_ref().unwrap();
-        is_counting(semaphore.kind) && semaphore.count == MOST_COUNT
+        semaphore.kind.is_counting() && semaphore.count == MOST_COUNT
     }
 
     /// Releases it once for its owner, who has obtained it several times.
@@ -336,7 +335,7 @@ impl Slot {
         ensures { self.new ≡ given_to thread self.old }
     {
         let semaphore = self.semaphore.as_mut().unwrap();
-        if is_binary(semaphore.kind) {
+        if semaphore.kind.is_binary() {
             semaphore.owner = Some(thread);
             semaphore.nesting = 1;
         }

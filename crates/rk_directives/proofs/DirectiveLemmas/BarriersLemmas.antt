@@ -6,7 +6,7 @@ use Rattle.rk_model.specs.declared.ids.Class.TheVariants.{Barrier}
 use Rattle.rk_model.specs.declared.scenario.Target.{Target}
 use Rattle.rk_model.specs.declared.state.Thread.{Thread}
 use Rattle.rk_model.specs.declared.state.Wait.{Wait}
-use Rattle.rk_model.specs.declared.state.Wait.TheVariants.{ForTime, ForEvents, AtBarrier, ForPeriod, ForSemaphore}
+use Rattle.rk_model.specs.declared.state.Wait.TheVariants.{AtBarrier}
 use Rattle.rk_model.specs.declared.status.Status.{Status}
 use Rattle.rk_model.specs.declared.status.Status.TheVariants.{Successful, ObjectWasDeleted}
 use Rattle.rk_model.specs.Lists.{nth, times}
@@ -15,13 +15,13 @@ use Rattle.rk_model.specs.State.{Plain, BarrierState, objects_of, no_thread, no_
 use Rattle.rk_model.specs.Directives.Objects.{object_named, put_names, without_object}
 use Rattle.rk_model.specs.Directives.Waits.{OfBarrier, object_of_wait, is_for, without, without_arrival, end_wait, end_each, bare}
 use Rattle.rk_model.specs.Directives.Barriers.{new_barrier, most_refusal, barrier_create, barrier_ident, end_at, is_full, barrier_wait, barrier_release, without_barrier, barrier_delete}
-use Rattle.rk_model.proofs.BooleanLemmas.{equal_test, same_number}
+use Rattle.rk_model.proofs.BooleanLemmas.{equal_test}
 use Rattle.rk_model.proofs.IndexLemmas.{nth-with_same, nth-with_other, length-with_nth}
 use Rattle.rk_directives.specs.Calls.{IsCaller}
 use Rattle.rk_directives.specs.Sound.{IsSound, IsGentle, but_none, is_waiting}
 use Rattle.rk_directives.proofs.DirectiveLemmas.ObjectsLemmas.{named_lives}
 use Rattle.rk_directives.proofs.NamesAgreeLemmas.{first_free, named_placed, named_vacated}
-use Rattle.rk_directives.proofs.TieLemmas.{live_within, tied_barrier}
+use Rattle.rk_directives.proofs.TieLemmas.{awaited, live_within, tied_barrier}
 use Rattle.rk_directives.proofs.GentleChangeLemmas.{gentle_same, gentle_but, gentle_end_wait, Stays}
 use Rattle.rk_directives.proofs.WaitChainLemmas.{joins_unowned}
 use Rattle.rk_directives.proofs.OutcomeLemmas.{stays_as, IsFair, gentle_limited, fair_done, fair_waiting, fair_found, fair_create, fair_ident, fair_if}
@@ -46,14 +46,6 @@ pub record Heads (wait : Option Wait) (i t : ℕ) (behind : List ℕ) : Type 0 w
   pub waits : is_waiting wait ≡ true
   pub once : times t behind ≡ 0
 
-awaited : (wait : Option Wait) (i : ℕ) → is_for (object_of_wait wait) (OfBarrier i) ≡ true → (object_of_wait wait ≡ Some (OfBarrier i)) × (is_waiting wait ≡ true)
-awaited None i h = absurd (false≢true h)
-awaited (Some ForTime) i h = absurd (false≢true h)
-awaited (Some (ForEvents set all)) i h = absurd (false≢true h)
-awaited (Some (AtBarrier j)) i h = (ap (λ n. Some (OfBarrier n)) (same_number j i h), refl)
-awaited (Some (ForPeriod j)) i h = absurd (false≢true h)
-awaited (Some (ForSemaphore j)) i h = absurd (false≢true h)
-
 pub heads : (wait : Option Wait) (i t : ℕ) (behind : List ℕ) → times t (t ∷ behind) ≡ cond (is_for (object_of_wait wait) (OfBarrier i)) 1 0 → Heads wait i t behind
 heads wait i t behind stood = by (is_for (object_of_wait wait) (OfBarrier i)) refl stood where
   here : (t == t) ≡ true
@@ -62,7 +54,7 @@ heads wait i t behind stood = by (is_for (object_of_wait wait) (OfBarrier i)) re
   by : (b : Bool) → is_for (object_of_wait wait) (OfBarrier i) ≡ b → times t (t ∷ behind) ≡ cond b 1 0 → Heads wait i t behind
   by true e stood =
       let more : 1 + times t behind ≡ 1 = rw here at stood in
-      let a = awaited wait i e in
+      let a = awaited wait (OfBarrier i) e in
       record { awaits = a.0; waits = a.1; once = omega (arith, more) }
   by false e stood = let more : 1 + times t behind ≡ 0 = rw here at stood in absurd (omega (arith, more))
 

@@ -24,6 +24,7 @@ use Rattle.rk_directives.specs.Calls.{IsCaller}
 use Rattle.rk_directives.specs.Does.{Becomes, BecomesBoth, Does, DoesBoth}
 use Rattle.rk_directives.specs.Sound.{IsSound, but_none, is_waiting}
 use Rattle.rk_model.proofs.IndexLemmas.{nth-with_kept}
+use Rattle.rk_directives.proofs.KeptHoldingLemmas.{still_held}
 use Rattle.rk_directives.proofs.ThreadBoundsLemmas.{bounds_in}
 use Rattle.rk_directives.proofs.GentleChangeLemmas.{Stays, stays_put, stays_end_wait}
 use Rattle.rk_directives.proofs.WaitChainLemmas.{joins_unowned}
@@ -83,6 +84,7 @@ seizes s old mid new groups groups' u pending got left is puts ends =
       state = λ table laid. both.state table laid ∙ ap (λ p. end_wait (with_pending (joined s table old groups) u p) u (record { status = Successful; out = got })) is;
       kept = both.kept;
       framed = both.framed;
+      held = both.held;
     }
 
 -- events were sent to a task, which seizes them
@@ -93,6 +95,7 @@ sent_seizes s old mid new groups groups' u pending got wait is puts seizes =
       state = λ table laid. both.state table laid ∙ ap (with_seized (with_pending (joined s table old groups) u pending) u pending) is;
       kept = both.kept;
       framed = both.framed;
+      held = both.held;
     }
 
 -- or doesn't
@@ -103,6 +106,7 @@ sent_alone s old new groups u pending wait is puts =
       state = λ table laid. alone.state table groups laid ∙ ap (with_seized (with_pending (joined s table old groups) u pending) u pending) is;
       kept = alone.kept;
       framed = refl;
+      held = still_held old new groups groups alone.held (λ i. refl);
     }
 
 -- the row of event.send, by the task that is found
@@ -117,6 +121,7 @@ sends s old new groups groups' t u set id thread answer found here is becomes = 
       (becomes s).state table laid ∙ ap (λ (x : Thread). sent k u (bit_or x.pending set) x.wait) here ∙ ap (λ o. changed k (send_row k set o)) (sym found));
   kept = (becomes s).kept;
   framed = (becomes s).framed;
+  held = (becomes s).held;
 }
 
 -- nobody is asked for
@@ -126,6 +131,7 @@ sends_none s old groups t set id found = record {
   state = λ table laid. (let k = joined s table old groups in ap (λ o. changed k (send_row k set o)) (sym found));
   kept = refl;
   framed = refl;
+  held = λ h. h;
 }
 
 -- the row of event.receive for a set that isn't empty, by the events that are seized
@@ -146,4 +152,5 @@ receives_later s old new t set pending ticks all some here is becomes =
           (becomes s).state table groups laid ∙ ap (λ o. changed k (receive_row k t set all (Limit ticks) false o)) (sym none)
           ∙ ap (λ b. changed k (receive_row k t set all (Limit ticks) b (seized (thread_at k t).pending set all))) (sym some));
       kept = (becomes s).kept;
+      held = (becomes s).held;
     }

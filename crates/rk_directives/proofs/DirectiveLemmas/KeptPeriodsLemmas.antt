@@ -32,7 +32,7 @@ use Rattle.rk_model.specs.Directives.Partitions.{is_out, is_in_use, memory_refus
 use Rattle.rk_model.specs.Directives.Periods.{is_awaited}
 use Rattle.rk_model.specs.Directives.Semaphores.{is_owned, Obtaining, Nests, Takes, NotObtained, Enters, Releasing, NotReleased, Unnests, Serves, Frees, handed_to, flushed, up_to_date, semaphore_create, semaphore_ident, obtained_at, semaphore_obtain, served_at, released_at, semaphore_release, emptied_at, semaphore_flush, without_semaphore, semaphore_delete, has_obtained}
 use Rattle.rk_model.specs.Steps.{directive, back}
-use Rattle.rk_model.proofs.BooleanLemmas.{equal_test, or_back}
+use Rattle.rk_model.proofs.BooleanLemmas.{equal_test, or_back, neither_back}
 use Rattle.rk_directives.specs.Calls.{IsActing}
 use Rattle.rk_directives.specs.Sound.{IsSound}
 use Rattle.rk_directives.specs.SoundPeriods.{awaits, IsAwaitedBy, Owner, owner_of, KeepsPeriods}
@@ -170,10 +170,6 @@ without_task_keeps k u sound none =
     (keeps_then k left idle (keeps_leave k u) (keeps_cancel left h u))
     (keeps_apart idle u no_thread (λ i lives is. false≢true (sym none ∙ created_one k.periods i u lives is)) (sym (awaits_none k u sound none))))
     (keeps_names gone (without_task k u).table)
-
-neither_back : (a b : Bool) → (a || b) ≡ false → b ≡ false
-neither_back true b e = absurd (false≢true (sym e))
-neither_back false b e = e
 
 pub task_delete_keeps : (k : Plain) (t : ℕ) (id : Target) → IsSound k → LeavesPeriods k (task_delete k t id)
 task_delete_keeps k t id sound = keeps_found k (task_named k t id) _ (λ u _. keeps_if k (has_obtained k.semaphores u || has_created k.periods u) _ _ (λ _. keeps_refused k _) (λ free.

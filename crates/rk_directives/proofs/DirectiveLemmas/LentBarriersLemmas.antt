@@ -36,6 +36,7 @@ use Rattle.rk_parts.specs.Lent.{Frame}
 use Rattle.rk_model.specs.declared.state.Armer.TheVariants.{Thread as OfThread}
 use Rattle.rk_model.specs.Scheduling.Timers.{arm}
 use Rattle.rk_directives.proofs.GentleChangeLemmas.{waits_within}
+use Rattle.rk_directives.proofs.KeptHoldingLemmas.{still_held, same_owners}
 use Rattle.rk_directives.proofs.DirectiveLemmas.LentLemmas.{laid_kept}
 use Rattle.rk_parts.proofs.GroupLemmas.{length_barriers, with_nth-still, barrier_joined}
 use Rattle.rk_parts.proofs.PutLemmas.{length_threads, thread_held}
@@ -171,6 +172,7 @@ all_ended s old new groups groups' i status wakes low high queue puts is becomes
       ∙ sym (ended_by s table old groups i status low high queue);
   kept = becomes.kept;
   framed = puts.kept;
+  held = still_held old new groups groups' becomes.held (same_owners groups groups' puts.semaphores);
 }
 
 -- ---- barrier.release
@@ -184,6 +186,7 @@ releases s old new groups groups' t i out id answer found is count becomes = rec
   state = λ table laid. (let k = joined s table old groups in (becomes s).state table laid ∙ ap (λ o. changed k (release_row k o)) (sym found));
   kept = (becomes s).kept;
   framed = (becomes s).framed;
+  held = (becomes s).held;
 }
 
 pub releases_none : (s : Scenario) (old : List ClusterPart) (groups : List GroupPart) (t : ℕ) (id : Target) → object_named (lent_both old groups) t Barrier id ≡ None → DoesBoth s (λ k. barrier_release k t id) (told.Refused InvalidId) old groups old groups
@@ -192,6 +195,7 @@ releases_none s old groups t id found = record {
   state = λ table laid. (let k = joined s table old groups in ap (λ o. changed k (release_row k o)) (sym found));
   kept = refl;
   framed = refl;
+  held = λ h. h;
 }
 
 -- ---- barrier.wait
@@ -237,6 +241,7 @@ waits_there s old new groups groups' t i ticks id found full puts becomes =
           ∙ ap (λ d. changed k (wait_by k t ticks i d)) (sym full) ∙ ap (λ o. changed k (wait_row k t ticks o)) (sym found));
       kept = (becomes s).kept;
       framed = puts.kept;
+      held = still_held old new groups groups' (becomes s).held (same_owners groups groups' puts.semaphores);
     }
 
 -- or makes it full
@@ -251,6 +256,7 @@ waits_full s old new groups groups' t i ticks id wakes answer low high queue fou
       state = λ table laid. (let k = joined s table old groups in ends.state table laid ∙ ap (λ d. changed k (wait_by k t ticks i d)) (sym full) ∙ ap (λ o. changed k (wait_row k t ticks o)) (sym found));
       kept = ends.kept;
       framed = ends.framed;
+      held = ends.held;
     }
 
 pub waits_none : (s : Scenario) (old : List ClusterPart) (groups : List GroupPart) (t ticks : ℕ) (id : Target) → object_named (lent_both old groups) t Barrier id ≡ None → DoesBoth s (λ k. barrier_wait k t id ticks) (told.Refused InvalidId) old groups old groups
@@ -259,6 +265,7 @@ waits_none s old groups t ticks id found = record {
   state = λ table laid. (let k = joined s table old groups in ap (λ o. changed k (wait_row k t ticks o)) (sym found));
   kept = refl;
   framed = refl;
+  held = λ h. h;
 }
 
 -- ---- barrier.create
@@ -276,6 +283,7 @@ creates s groups groups' table table' name index most automatic refusal answer r
   told = λ parts. (let k = joined s table parts groups in is ∙ ap answer_of (sym (row k)));
   state = λ parts. (let k = joined s table parts groups in barrier_joined s table' parts groups groups' index (new_barrier automatic most) puts ∙ ap (changed k) (sym (row k)));
   framed = puts.kept;
+  owners = same_owners groups groups' puts.semaphores;
 } where
   place : ℕ → Plain → Plain
   place index next = put_barrier next index (new_barrier automatic most)
@@ -288,6 +296,7 @@ creates_none s groups table table' name most automatic refusal status refused ma
   told = λ parts. (let k = joined s table parts groups in ap answer_of (sym (row k)));
   state = λ parts. (let k = joined s table parts groups in (made k).1 ∙ ap (changed k) (sym (row k)));
   framed = refl;
+  owners = λ i. refl;
 } where
   place : ℕ → Plain → Plain
   place index next = put_barrier next index (new_barrier automatic most)
@@ -325,6 +334,7 @@ removes s old new groups groups' table table' i wakes low high queue puts woke b
       laid = λ laid. laid_kept s.clusters old new becomes.kept laid;
       kept = ap (λ (f : Frame). f.stored) becomes.kept;
       framed = puts.kept;
+      held = still_held old new groups groups' becomes.held (same_owners groups groups' puts.semaphores);
     }
 
 abbrev delete_row : Plain → Option ℕ → Outcome
@@ -339,6 +349,7 @@ deletes_barrier s old new groups groups' table table' t i id answer found is bec
       laid = becomes.laid;
       kept = becomes.kept;
       framed = becomes.framed;
+      held = becomes.held;
     }
 
 pub deletes_none : (s : Scenario) (old : List ClusterPart) (groups : List GroupPart) (table : Table) (t : ℕ) (id : Target) → object_named (lent_both old groups) t Barrier id ≡ None → DoesEvery s (λ k. barrier_delete k t id) (told.Refused InvalidId) old groups table old groups table
@@ -350,4 +361,5 @@ deletes_none s old groups table t id found =
       laid = λ laid. laid;
       kept = refl;
       framed = refl;
+      held = λ h. h;
     }

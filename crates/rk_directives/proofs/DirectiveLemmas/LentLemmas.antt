@@ -42,6 +42,7 @@ use Rattle.rk_parts.proofs.LayoutLemmas.{lie}
 use Rattle.rk_parts.proofs.SettledPartLemmas.{thread_any}
 use Rattle.rk_directives.specs.Calls.{IsActing}
 use Rattle.rk_directives.specs.Does.{Becomes, BecomesBoth, BecomesEvery, Does, DoesBoth, DoesEvery, DoesGroups, DoesWide, DoesAll, Tells, with_table}
+use Rattle.rk_directives.proofs.KeptHoldingLemmas.{still_held, left_owners}
 use Rattle.rk_directives.proofs.OutcomeLemmas.{none_armed}
 
 -- parts that keep their frame are laid as before
@@ -82,6 +83,7 @@ limited s old mid new t wait ticks due some is armed puts = record {
       ∙ ap (λ d. arm (start_wait k t wait) (thread_at k t).home (record { who = OfThread t; due = d })) is
       ∙ sym (with_limit k t wait ticks some));
   kept = puts.kept ∙ armed.kept;
+  held = puts.held ∙ armed.held;
 }
 
 -- a timer was cancelled, and its thread waits no longer
@@ -92,6 +94,7 @@ stopped s old mid new t reply cancelled puts = record {
       ∙ ap (λ (n : Plain). put_thread n t (record (thread_lent mid t) { wait = None; finished = Some reply })) (cancelled.state s table groups laid)
       ∙ ap (λ (x : Thread). put_thread (cancel (joined s table old groups) (thread_lent old t).home (OfThread t)) t (record x { wait = None; finished = Some reply })) (same_thread old mid t cancelled.threads);
   kept = puts.kept ∙ cancelled.kept;
+  held = puts.held ∙ cancelled.held;
 }
 
 -- which leaves lives alone
@@ -107,6 +110,7 @@ ended s old new groups groups' t wait reply is leaves stops = record {
   state = λ table laid. stops.state table groups' laid ∙ ap (λ (n : Plain). stop_wait n t reply) (left_joined s table old groups groups' t wait is leaves);
   kept = stops.kept;
   framed = leaves.kept;
+  held = still_held old new groups groups' stops.held (left_owners groups groups' t wait leaves);
 }
 
 -- a thread has left its queue, its timer was cancelled, it was removed, and its name taken away
@@ -120,17 +124,19 @@ deleted s old mid new groups groups' table table' t wait is leaves cancelled rep
   laid = λ laid. replaces.laid s.clusters (laid_kept s.clusters old mid cancelled.kept laid) (λ h. absurd (false≢true h));
   kept = replaces.kept ∙ ap (λ (f : Frame). f.stored) cancelled.kept;
   framed = leaves.kept;
+  held = still_held old new groups groups' (replaces.held ∙ cancelled.held) (left_owners groups groups' t wait leaves);
 }
 
 -- a thread was put
 pub put_alone : (s : Scenario) (old new : List ClusterPart) (t : ℕ) (x : Thread) → Puts old t x new → Becomes s (λ k. put_thread k t x) old new
-put_alone s old new t x puts = record { state = λ table groups laid. puts_state s table groups old new t x puts; kept = puts.kept }
+put_alone s old new t x puts = record { state = λ table groups laid. puts_state s table groups old new t x puts; kept = puts.kept; held = puts.held }
 
 -- a thread was put, and then the state changed further
 pub put_then : (s : Scenario) (old mid new : List ClusterPart) (t : ℕ) (x : Thread) (change : Plain → Plain) → Puts old t x mid → Becomes s change mid new → Becomes s (λ k. change (put_thread k t x)) old new
 put_then s old mid new t x change puts becomes = record {
   state = λ table groups laid. becomes.state table groups (laid_kept s.clusters old mid puts.kept laid) ∙ ap change (puts_state s table groups old mid t x puts);
   kept = becomes.kept ∙ puts.kept;
+  held = becomes.held ∙ puts.held;
 }
 
 -- the same, of groups too
@@ -139,17 +145,18 @@ put_both s old mid new groups groups' t x change puts becomes = record {
   state = λ table laid. becomes.state table (laid_kept s.clusters old mid puts.kept laid) ∙ ap change (puts_state s table groups old mid t x puts);
   kept = becomes.kept ∙ puts.kept;
   framed = becomes.framed;
+  held = λ h. becomes.held (still_held old mid groups groups puts.held (λ i. refl) h);
 }
 
 -- what changes parts of clusters alone changes no group
 pub both_of : (s : Scenario) (change : Plain → Plain) (old new : List ClusterPart) (groups : List GroupPart) → Becomes s change old new → BecomesBoth s change old groups new groups
-both_of s change old new groups becomes = record { state = λ table. becomes.state table groups; kept = becomes.kept; framed = refl }
+both_of s change old new groups becomes = record { state = λ table. becomes.state table groups; kept = becomes.kept; framed = refl; held = still_held old new groups groups becomes.held (λ i. refl) }
 
 -- ---- rows
 
 -- a row that is lent parts of clusters alone
 pub does_both : (s : Scenario) (row : Plain → Outcome) (answer : Answer) (old new : List ClusterPart) (groups : List GroupPart) → Does s row answer old new → DoesBoth s row answer old groups new groups
-does_both s row answer old new groups does = record { told = λ table. does.told table groups; state = λ table. does.state table groups; kept = does.kept; framed = refl }
+does_both s row answer old new groups does = record { told = λ table. does.told table groups; state = λ table. does.state table groups; kept = does.kept; framed = refl; held = still_held old new groups groups does.held (λ i. refl) }
 
 -- a row on what a caller asks for, which isn't found,
 pub unknown_both : (s : Scenario) (old : List ClusterPart) (groups : List GroupPart) (named : Plain → Option ℕ) (row : Plain → ℕ → Outcome) → ((table : Table) → named (joined s table old groups) ≡ None) → DoesBoth s (λ k. on_found (named k) (row k)) (told.Refused InvalidId) old groups old groups
@@ -158,6 +165,7 @@ unknown_both s old groups named row none = record {
   state = λ table laid. (let k = joined s table old groups in ap (λ o. changed k (on_found o (row k))) (sym (none table)));
   kept = refl;
   framed = refl;
+  held = λ h. h;
 }
 
 -- and is
@@ -167,6 +175,7 @@ found_both s old new groups groups' named row i answer found does = record {
   state = λ table laid. (let k = joined s table old groups in does.state table laid ∙ ap (λ o. changed k (on_found o (row k))) (sym (found table)));
   kept = does.kept;
   framed = does.framed;
+  held = does.held;
 }
 
 -- the same of a row that is lent the table too,
@@ -179,6 +188,7 @@ unknown_every s old groups table named row none =
       laid = λ laid. laid;
       kept = refl;
       framed = refl;
+      held = λ h. h;
     }
 
 pub found_every : (s : Scenario) (old new : List ClusterPart) (groups groups' : List GroupPart) (table table' : Table) (named : Plain → Option ℕ) (row : Plain → ℕ → Outcome) (i : ℕ) (answer : Answer) → named (joined s table old groups) ≡ Some i → DoesEvery s (λ k. row k i) answer old groups table new groups' table' → DoesEvery s (λ k. on_found (named k) (row k)) answer old groups table new groups' table'
@@ -190,6 +200,7 @@ found_every s old new groups groups' table table' named row i answer found does 
       laid = does.laid;
       kept = does.kept;
       framed = does.framed;
+      held = does.held;
     }
 
 -- and needs no part of a cluster once it is found
@@ -202,6 +213,7 @@ found_grouped s old groups groups' table table' named row i answer found does =
       laid = λ laid. laid;
       kept = refl;
       framed = does.framed;
+      held = still_held old old groups groups' refl does.owners;
     }
 
 -- a row that comes to waiting in the state that the parts become
@@ -210,13 +222,14 @@ waits s row change old new is becomes = record {
   told = λ table groups. ap answer_of (sym (is (joined s table old groups)));
   state = λ table groups laid. becomes.state table groups laid ∙ ap (changed (joined s table old groups)) (sym (is (joined s table old groups)));
   kept = becomes.kept;
+  held = becomes.held;
 }
 
 -- ---- rows of the task manager
 
 -- a sleep stands in no queue
 pub later : (old new : List ClusterPart) (t ticks : ℕ) (s : Scenario) → Becomes s (λ k. start_limited k t ForTime ticks) old new → Becomes s (λ k. begin_limited k t ForTime ticks) old new
-later old new t ticks s becomes = record { state = becomes.state; kept = becomes.kept }
+later old new t ticks s becomes = record { state = becomes.state; kept = becomes.kept; held = becomes.held }
 
 -- the rule, by what was found
 abbrev delete_row : Plain → ℕ → Option ℕ → Outcome
@@ -240,6 +253,7 @@ deletes s old new groups groups' table table' t u id answer found free is become
       laid = becomes.laid;
       kept = becomes.kept;
       framed = becomes.framed;
+      held = becomes.held;
     }
 
 -- and one that owns a semaphore or created a period isn't
@@ -252,6 +266,7 @@ deletes_not s old groups table t u id found created =
       laid = λ laid. laid;
       kept = refl;
       framed = refl;
+      held = λ h. h;
     }
 
 -- ---- all parts
@@ -263,6 +278,7 @@ all_narrow all new row answer whole does = record {
   state = does.state all.table.names all.groups whole.laid;
   laid = laid_kept all.scenario.clusters all.clusters new does.kept whole.laid;
   kept = ap (λ (f : Frame). f.stored) does.kept;
+  held = still_held all.clusters new all.groups all.groups does.held (λ i. refl) whole.held;
   rest = refl;
 }
 
@@ -273,6 +289,7 @@ all_both all new groups row answer whole does = record {
   state = does.state all.table.names whole.laid;
   laid = laid_kept all.scenario.clusters all.clusters new does.kept whole.laid;
   kept = ap (λ (f : Frame). f.stored) does.kept;
+  held = does.held whole.held;
   rest = λ i. record { scenario = all.scenario; groups = does.framed i; time = all.table.present };
 }
 
@@ -283,6 +300,7 @@ all_every all new groups table row answer whole does = record {
   state = does.state whole.laid;
   laid = does.laid whole.laid;
   kept = does.kept;
+  held = does.held whole.held;
   rest = λ i. record { scenario = all.scenario; groups = does.framed i; time = all.table.present };
 }
 
@@ -293,6 +311,7 @@ all_grouped all groups table row answer whole does = record {
   state = does.state all.clusters;
   laid = whole.laid;
   kept = refl;
+  held = still_held all.clusters all.clusters all.groups groups refl does.owners whole.held;
   rest = λ i. record { scenario = all.scenario; groups = does.framed i; time = all.table.present };
 }
 
@@ -303,12 +322,13 @@ all_wide all new table row answer whole does = record {
   state = does.state all.groups whole.laid;
   laid = does.laid whole.laid;
   kept = does.kept;
+  held = still_held all.clusters new all.groups all.groups does.held (λ i. refl) whole.held;
   rest = refl;
 }
 
 -- a row that changes nothing
 pub all_tells : (all : AllParts) (o : Outcome) (answer : Answer) → AreWhole all → Tells o answer (plain_of all) → DoesAll o answer all all
-all_tells all o answer whole tells = record { told = tells.told; state = sym tells.state; laid = whole.laid; kept = refl; rest = refl }
+all_tells all o answer whole tells = record { told = tells.told; state = sym tells.state; laid = whole.laid; kept = refl; held = whole.held; rest = refl }
 
 lives_acting : (all : AllParts) (t : ℕ) → IsActing (plain_of all) t → has_begun (thread_lent all.clusters t).life ≡ true
 lives_acting all t acts = ap has_begun acts.started

@@ -33,6 +33,7 @@ use Rattle.rk_parts.specs.Lent.{AreLaid, layouts, Frame, Puts, PutsTimers, with_
 use Rattle.rk_parts.proofs.GroupLemmas.{with_nth-still}
 use Rattle.rk_parts.proofs.PeriodGroupLemmas.{period_joined}
 use Rattle.rk_directives.specs.Does.{BecomesBoth, DoesBoth, DoesEvery, DoesGroups, Creates, answered, with_table}
+use Rattle.rk_directives.proofs.KeptHoldingLemmas.{still_held, same_owners}
 use Rattle.rk_directives.proofs.DirectiveLemmas.LentLemmas.{laid_kept, puts_state}
 
 -- a row that comes to the same as another in the state that the parts stand for
@@ -42,6 +43,7 @@ does_as s old new groups groups' row as_row answer same does = record {
   state = λ table laid. does.state table laid ∙ ap (changed (joined s table old groups)) (sym (same table));
   kept = does.kept;
   framed = does.framed;
+  held = does.held;
 }
 
 -- to put back what stands there changes nothing
@@ -151,6 +153,7 @@ asks s old groups groups' t i length now used reply answer zero puts is ends = r
   state = λ table laid. put_still s table old groups groups' i _ (call_asks t length now used period zero) puts ∙ sym (state_by (joined s table old groups) (period.creator == t));
   kept = refl;
   framed = puts.kept;
+  held = still_held old old groups groups' refl (same_owners groups groups' puts.semaphores);
 } where
   period : PeriodState
   period = period_lent groups i
@@ -197,6 +200,7 @@ starts s old new groups groups' t i length due reply answer calls is status at a
           ∙ ap (λ d. arm (with_next k t i length) (thread_lent old t).home (record { who = OfPeriod i; due = d })) at);
       kept = armed.kept;
       framed = calls.puts.kept;
+      held = still_held old new groups groups' armed.held (same_owners groups groups' calls.puts.semaphores);
     })
 
 -- It was expired: a postponed job has started.
@@ -210,6 +214,7 @@ catches_up s old groups groups' t i length reply calls is status =
       state = λ table laid. called_state s table old groups groups' t i length calls was.own;
       kept = refl;
       framed = calls.puts.kept;
+      held = still_held old old groups groups' refl (same_owners groups groups' calls.puts.semaphores);
     })
 
 -- It was active: the caller waits.
@@ -225,6 +230,7 @@ awaits_end s old new groups groups' t i length reply calls is status puts =
           puts_state s table groups' old new t _ puts ∙ ap (λ (n : Plain). put_thread n t (record (thread_lent old t) { wait = Some (ForPeriod i) })) (called_state s table old groups groups' t i length calls own);
       kept = puts.kept;
       framed = calls.puts.kept;
+      held = still_held old new groups groups' puts.held (same_owners groups groups' calls.puts.semaphores);
     })
 
 -- It is another thread's.
@@ -239,6 +245,7 @@ refuses_other s old groups groups' t i length reply calls is a b c =
       state = λ table laid. put_still s table old groups groups' i _ (call_other t length calls.now calls.used (period_lent groups i) other) calls.puts;
       kept = refl;
       framed = calls.puts.kept;
+      held = still_held old old groups groups' refl (same_owners groups groups' calls.puts.semaphores);
     })
 
 -- ---- period.cancel
@@ -271,6 +278,7 @@ cancels s old new groups groups' t i reply answer puts is status stops ends =
           ∙ ap (λ u. with_timers (put_period k i (record period { phase = Inactive })) (thread_lent old u).home (without_timer (OfPeriod i))) (sym by));
       kept = stops.kept;
       framed = puts.kept;
+      held = still_held old new groups groups' stops.held (same_owners groups groups' puts.semaphores);
     })
 
 pub cancels_not : (s : Scenario) (old : List ClusterPart) (groups groups' : List GroupPart) (t i : ℕ) (reply : Reply) → PutsPeriod groups i (cancelled_on t (period_lent groups i)) groups' → reply ≡ reply_to_cancel t (period_lent groups i) → (reply.status ≡ Successful → ⊥) → DoesBoth s (λ k. cancelled_by k t i) (told.Refused reply.status) old groups old groups'
@@ -284,6 +292,7 @@ cancels_not s old groups groups' t i reply puts is status =
       state = λ table laid. put_still s table old groups groups' i _ (ap (λ b. cond b (record period { phase = Inactive }) period) other) puts;
       kept = refl;
       framed = puts.kept;
+      held = still_held old old groups groups' refl (same_owners groups groups' puts.semaphores);
     })
 
 -- ---- period.delete
@@ -318,6 +327,7 @@ ends_period s old new groups groups' table table' i by reply answer creator puts
       laid = λ laid. laid_kept s.clusters old new stops.kept laid;
       kept = ap (λ (f : Frame). f.stored) stops.kept;
       framed = puts.kept;
+      held = still_held old new groups groups' stops.held (same_owners groups groups' puts.semaphores);
     }
 
 pub ends_not : (s : Scenario) (old : List ClusterPart) (groups groups' : List GroupPart) (table : Table) (i : ℕ) (reply : Reply) → PutsPeriod groups i (removed (period_lent groups i)) groups' → reply ≡ reply_to_remove (period_lent groups i) → (reply.status ≡ Successful → ⊥) → DoesEvery s (λ k. ended_at k i) (told.Refused reply.status) old groups table old groups' table
@@ -332,6 +342,7 @@ ends_not s old groups groups' table i reply puts is status =
       laid = λ laid. laid;
       kept = refl;
       framed = puts.kept;
+      held = still_held old old groups groups' refl (same_owners groups groups' puts.semaphores);
     }
 
 -- ---- period.create
@@ -341,6 +352,7 @@ creates_period s groups groups' table table' t name index answer made is puts = 
   told = λ parts. (let k = joined s table parts groups in is ∙ ap answer_of (sym (made k place)));
   state = λ parts. (let k = joined s table parts groups in period_joined s table' parts groups groups' index (new_period t) puts ∙ ap (changed k) (sym (made k place)));
   framed = puts.kept;
+  owners = same_owners groups groups' puts.semaphores;
 } where
   place : ℕ → Plain → Plain
   place index next = put_period next index (new_period t)
@@ -350,6 +362,7 @@ creates_no_period s groups table table' t name status made = record {
   told = λ parts. (let k = joined s table parts groups in ap answer_of (sym ((made k).0 place)));
   state = λ parts. (let k = joined s table parts groups in (made k).1 ∙ ap (changed k) (sym ((made k).0 place)));
   framed = refl;
+  owners = λ i. refl;
 } where
   place : ℕ → Plain → Plain
   place index next = put_period next index (new_period t)
@@ -396,6 +409,7 @@ passes_postponed old mid groups groups' i now next_end came is ends passing post
   state = λ table laid. (let k = joined s table old groups in rearmed_state s table old mid groups groups' i next_end is laid ∙ sym (postponed_from k i now next_end (period_lent groups i).phase ends (sym passing ∙ postponed)));
   kept = is.armed.kept;
   framed = is.puts.kept;
+  held = still_held old mid groups groups' is.armed.held (same_owners groups groups' is.puts.semaphores);
 }
 
 pub passes_woken : (old mid new : List ClusterPart) (groups groups' groups'' : List GroupPart) (i next_end by : ℕ) (reply : Reply) (came : Passed) → Rearms old groups i next_end mid groups' → by ≡ (period_lent groups i).creator → reply ≡ bare Successful → came ≡ passing_of (period_lent groups i).phase → came ≡ Woke next_end →
@@ -410,4 +424,5 @@ passes_woken old mid new groups groups' groups'' i next_end by reply came is cre
       ∙ sym (woke_from k i next_end (period_lent groups i).phase (sym passing ∙ woke)));
   kept = (ends s).kept ∙ is.armed.kept;
   framed = (ends s).framed ∙ is.puts.kept;
+  held = λ h. (ends s).held (still_held old mid groups groups' is.armed.held (same_owners groups groups' is.puts.semaphores) h);
 }

@@ -1,5 +1,5 @@
 -- What the directives of the semaphore manager do to lent parts.
-use Rattle.std.proofs.Common.{◌≡◌, ◌⊎◌, inl, inr, ℕ, zero, suc, ◌+◌, ◌≤◌, List, [], ◌∷◌, Bool, true, false, cond, not, ◌==◌, ◌&&◌, ◌||◌, nat_lt, map, take, slice_get, Option, Some, None, Ok, Err, IfSome, IfNone, length, arith, refl, sym, ap, ◌∙◌, subst}
+use Rattle.std.proofs.Common.{◌≡◌, ◌⊎◌, inl, inr, ℕ, zero, suc, ◌+◌, ◌-◌, ◌≤◌, List, [], ◌∷◌, Bool, true, false, cond, not, ◌==◌, ◌&&◌, ◌||◌, nat_lt, map, take, slice_get, Option, Some, None, Ok, Err, IfSome, IfNone, length, arith, refl, sym, ap, ◌∙◌, subst}
 use Rattle.std.proofs.lemmas.Bool.{false≢true}
 use Rattle.std.proofs.lemmas.List.{length-map, take_all}
 use Rattle.rk_model.specs.declared.entry.Answer.{Answer}
@@ -11,6 +11,8 @@ use Rattle.rk_model.specs.declared.scenario.Wish.{Wish}
 use Rattle.rk_model.specs.declared.scenario.Wish.TheVariants.{NoWait, Limit}
 use Rattle.rk_model.specs.declared.semaphore.Protocol.{Protocol}
 use Rattle.rk_model.specs.declared.semaphore.Protocol.TheVariants.{NoProtocol, Inherit, Ceiling, Mrsp}
+use Rattle.rk_model.specs.declared.semaphore.SemKind.{SemKind}
+use Rattle.rk_model.specs.declared.semaphore.SemKind.TheVariants.{Counting, Simple, Binary}
 use Rattle.rk_model.specs.declared.semaphore.SemSpec.{SemSpec}
 use Rattle.rk_model.specs.declared.state.Wait.TheVariants.{ForSemaphore}
 use Rattle.rk_model.specs.declared.status.Status.{Status}
@@ -23,11 +25,11 @@ use Rattle.rk_model.specs.declared.waiting.Waiter.{Waiter}
 use Rattle.rk_model.specs.Ids.{id_of}
 use Rattle.rk_model.specs.Lists.{has, nth, with_nth}
 use Rattle.rk_model.specs.Names.{Table}
-use Rattle.rk_model.specs.Queues.{Queue, threads, clusters, with_prio, first_of, first_in, ended, IsQueue}
+use Rattle.rk_model.specs.Queues.{Queue, threads, clusters, with_prio, first_of, first_in, served_by, ended, IsQueue}
 use Rattle.rk_model.specs.State.{Plain, SemaphoreState, no_semaphore, semaphore_at, put_semaphore}
 use Rattle.rk_model.specs.Directives.Objects.{has_begun, create, without_object}
 use Rattle.rk_model.specs.Directives.Outcomes.{Outcome, Refused, Waiting, done, answer_of, changed}
-use Rattle.rk_model.specs.Directives.Semaphores.{is_binary, has_protocol, is_mrsp, spec_refusal, status_of_refusal, judged, is_owned, owns, is_free, Obtaining, Nests, Takes, NotObtained, Enters, nesting_by, obtaining_later, obtaining, nested, taken, after_obtaining, status_of_obtaining, Releasing, NotReleased, Unnests, Serves, Frees, releasing_to, releasing, unnested, handed_to, freed, is_full, after_releasing, status_of_releasing, flushed, after_deleting, with_prio_of, with_present_prio, up_to_date_by, up_to_date, new_semaphore, create_refusal, semaphore_create, reaches_from, obtained_at, released_at, emptied_at, without_semaphore}
+use Rattle.rk_model.specs.Directives.Semaphores.{is_binary, has_protocol, is_mrsp, spec_refusal, status_of_refusal, judged, is_owned, owns, is_free, Obtaining, Nests, Takes, NotObtained, Enters, nesting_by, obtaining_later, obtaining, owned_by, nested, taken, after_obtaining, status_of_obtaining, Releasing, NotReleased, Unnests, Serves, Frees, releasing_to, releasing, unnested, handed_to, freed, freed_by, is_full, after_releasing, status_of_releasing, flushed, after_deleting, with_prio_of, with_present_prio, up_to_date_by, up_to_date, new_semaphore, free_semaphore, create_refusal, semaphore_create, reaches_from, obtained_at, released_at, emptied_at, without_semaphore}
 use Rattle.rk_model.specs.Directives.Waits.{OfSemaphore, caller_at, with_waiter, start_limited, begin_limited, stop_wait, stop_each, bare}
 use Rattle.rk_model.specs.Scheduling.Priorities.{prio, home_prio}
 use Rattle.rk_model.proofs.BooleanLemmas.{equal_test, same_number, or_front, or_back}
@@ -42,7 +44,8 @@ use Rattle.rk_parts.specs.Lent.{Frame}
 use Rattle.rk_parts.proofs.GroupLemmas.{ended_is, with_nth-still}
 use Rattle.rk_parts.proofs.SemaphoreGroupLemmas.{length_semaphores, semaphore_joined}
 use Rattle.rk_directives.specs.Calls.{ticks_of, deleted_at}
-use Rattle.rk_directives.specs.Does.{Becomes, BecomesBoth, BecomesEvery, DoesBoth, DoesEvery, Creates, AllLive, IsQueueOf, woken, answered, lent_both, with_table}
+use Rattle.rk_directives.specs.Does.{Becomes, BecomesBoth, BecomesEvery, Comes, DoesBoth, DoesEvery, Creates, AllLive, IsQueueOf, KeepsHeld, KeepsOwners, woken, answered, lent_both, with_table}
+use Rattle.rk_directives.proofs.KeptHoldingLemmas.{put_owners, still_held}
 use Rattle.rk_directives.proofs.DirectiveLemmas.LentLemmas.{laid_kept}
 use Rattle.rk_directives.proofs.DirectiveLemmas.SemaphoresLemmas.{present_threads, up_to_date_threads, serves_first}
 use Rattle.rk_directives.proofs.DirectiveLemmas.LentBarriersLemmas.{queued_live, enter_first, named_woken}
@@ -97,32 +100,34 @@ put_still : (k : Plain) (i : ℕ) → put_semaphore k i (semaphore_at k i) ≡ k
 put_still k i = ap (λ (xs : List SemaphoreState). record k { semaphores = xs }) (with_nth-still no_semaphore k.semaphores i)
 
 -- what the caller obtains at once, or is refused
-abbrev ObtainsNow : Scenario → List ClusterPart → List GroupPart → List GroupPart → ℕ → ℕ → Caller → Reply → Obtaining → Type 0
-ObtainsNow s old groups groups' t i by reply o =
-    reply ≡ bare (status_of_obtaining o) → (reply.status ≡ Waits → ⊥) → PutsSemaphore groups i (after_obtaining o by (semaphore_lent groups i)) groups' → DoesBoth s (λ k. obtained_at k t i o) (answered reply) old groups old groups'
+abbrev ObtainsNow : Scenario → List ClusterPart → List ClusterPart → List GroupPart → List GroupPart → ℕ → ℕ → Caller → Reply → Obtaining → Type 0
+ObtainsNow s old new groups groups' t i by reply o =
+    reply ≡ bare (status_of_obtaining o) → (reply.status ≡ Waits → ⊥) → PutsSemaphore groups i (after_obtaining o by (semaphore_lent groups i)) groups' → DoesBoth s (λ k. obtained_at k t i o) (answered reply) old groups new groups'
 
-obtained_now : (s : Scenario) (old : List ClusterPart) (groups groups' : List GroupPart) (t i : ℕ) (x : SemaphoreState) (o : Obtaining) (reply : Reply) → reply ≡ bare Successful → PutsSemaphore groups i x groups' → ((k : Plain) → answer_of (obtained_at k t i o) ≡ told.Done Successful 0 None) → ((k : Plain) → semaphore_at k i ≡ semaphore_lent groups i → changed k (obtained_at k t i o) ≡ put_semaphore k i x) → DoesBoth s (λ k. obtained_at k t i o) (answered reply) old groups old groups'
-obtained_now s old groups groups' t i x o reply is puts told state = record {
+obtained_now : (s : Scenario) (old new : List ClusterPart) (groups groups' : List GroupPart) (t i : ℕ) (x : SemaphoreState) (o : Obtaining) (reply : Reply) → reply ≡ bare Successful → PutsSemaphore groups i x groups' → ((k : Plain) → answer_of (obtained_at k t i o) ≡ told.Done Successful 0 None) → ((k : Plain) → semaphore_at k i ≡ semaphore_lent groups i → changed k (obtained_at k t i o) ≡ put_semaphore k i x) → Comes s (λ k. k) old new → KeepsHeld old groups new groups' → DoesBoth s (λ k. obtained_at k t i o) (answered reply) old groups new groups'
+obtained_now s old new groups groups' t i x o reply is puts told state comes held = record {
   told = λ table. ap answered is ∙ sym (told (joined s table old groups));
-  state = λ table laid. semaphore_joined s table old groups groups' i x puts ∙ sym (state (joined s table old groups) refl);
-  kept = refl;
+  state = λ table laid. comes.state table groups' laid ∙ semaphore_joined s table old groups groups' i x puts ∙ sym (state (joined s table old groups) refl);
+  kept = comes.kept;
   framed = puts.kept;
+  held = held;
 }
 
-refused_now : (s : Scenario) (old : List ClusterPart) (groups groups' : List GroupPart) (t i : ℕ) (status : Status) (reply : Reply) → answered reply ≡ told.Refused status → PutsSemaphore groups i (semaphore_lent groups i) groups' → DoesBoth s (λ k. Refused status) (answered reply) old groups old groups'
-refused_now s old groups groups' t i status reply is puts = record {
+refused_now : (s : Scenario) (old new : List ClusterPart) (groups groups' : List GroupPart) (t i : ℕ) (status : Status) (reply : Reply) → answered reply ≡ told.Refused status → PutsSemaphore groups i (semaphore_lent groups i) groups' → Comes s (λ k. k) old new → KeepsHeld old groups new groups' → DoesBoth s (λ k. Refused status) (answered reply) old groups new groups'
+refused_now s old new groups groups' t i status reply is puts comes held = record {
   told = λ table. is;
-  state = λ table laid. semaphore_joined s table old groups groups' i (semaphore_lent groups i) puts ∙ put_still (joined s table old groups) i;
-  kept = refl;
+  state = λ table laid. comes.state table groups' laid ∙ semaphore_joined s table old groups groups' i (semaphore_lent groups i) puts ∙ put_still (joined s table old groups) i;
+  kept = comes.kept;
   framed = puts.kept;
+  held = held;
 }
 
-obtains_now : (s : Scenario) (old : List ClusterPart) (groups groups' : List GroupPart) (t i : ℕ) (by : Caller) (wish : Wish) (closes : Bool) (reply : Reply) → by.thread ≡ t → ObtainsNow s old groups groups' t i by reply (obtaining by.thread wish closes (semaphore_lent groups i))
-obtains_now s old groups groups' t i by wish closes reply same = by_obtaining (ObtainsNow s old groups groups' t i by reply) by.thread wish closes (semaphore_lent groups i)
-    (λ is other puts. obtained_now s old groups groups' t i (nested (semaphore_lent groups i)) Nests reply is puts (λ k. refl) (λ k at. ap (λ x. put_semaphore k i (nested x)) at))
-    (λ is other puts. obtained_now s old groups groups' t i (taken t (semaphore_lent groups i)) Takes reply is (subst (λ n. PutsSemaphore groups i (taken n (semaphore_lent groups i)) groups') same puts) (λ k. refl) (λ k at. ap (λ x. put_semaphore k i (taken t x)) at))
-    (λ is other puts. refused_now s old groups groups' t i Unsatisfied reply (ap answered is) puts)
-    (λ is other puts. refused_now s old groups groups' t i IncorrectState reply (ap answered is) puts)
+obtains_now : (s : Scenario) (old new : List ClusterPart) (groups groups' : List GroupPart) (t i : ℕ) (by : Caller) (wish : Wish) (closes : Bool) (reply : Reply) → by.thread ≡ t → Comes s (λ k. k) old new → KeepsHeld old groups new groups' → ObtainsNow s old new groups groups' t i by reply (obtaining by.thread wish closes (semaphore_lent groups i))
+obtains_now s old new groups groups' t i by wish closes reply same comes held = by_obtaining (ObtainsNow s old new groups groups' t i by reply) by.thread wish closes (semaphore_lent groups i)
+    (λ is other puts. obtained_now s old new groups groups' t i (nested (semaphore_lent groups i)) Nests reply is puts (λ k. refl) (λ k at. ap (λ x. put_semaphore k i (nested x)) at) comes held)
+    (λ is other puts. obtained_now s old new groups groups' t i (taken t (semaphore_lent groups i)) Takes reply is (subst (λ n. PutsSemaphore groups i (taken n (semaphore_lent groups i)) groups') same puts) (λ k. refl) (λ k at. ap (λ x. put_semaphore k i (taken t x)) at) comes held)
+    (λ is other puts. refused_now s old new groups groups' t i Unsatisfied reply (ap answered is) puts comes held)
+    (λ is other puts. refused_now s old new groups groups' t i IncorrectState reply (ap answered is) puts comes held)
     (λ ticks e is other puts. absurd (other (ap (λ (r : Reply). r.status) is)))
 
 -- what the caller waits for
@@ -143,6 +148,7 @@ enters s old new groups groups' t i by ticks is puts becomes = record {
       ∙ sym (enter_first k (caller_at k t) t (ForSemaphore i) ticks));
   kept = becomes.kept;
   framed = puts.kept;
+  held = still_held old new groups groups' becomes.held (put_owners groups groups' i (with_waiter by (semaphore_lent groups i)) puts refl);
 }
 
 obtains_later : (s : Scenario) (old new : List ClusterPart) (groups groups' : List GroupPart) (t i : ℕ) (by : Caller) (wish : Wish) (closes : Bool) (ticks : ℕ) (reply : Reply) → ticks ≡ ticks_of wish → by.thread ≡ t → by.home ≡ (thread_lent old t).home → by.prio ≡ home_prio (lent old) t → ObtainsLater s old new groups groups' t i by ticks reply (obtaining by.thread wish closes (semaphore_lent groups i))
@@ -161,30 +167,49 @@ same_row s row now answer old new groups groups' same does = record {
   state = λ table laid. does.state table laid ∙ ap (changed (joined s table old groups)) (sym (same table));
   kept = does.kept;
   framed = does.framed;
+  held = does.held;
 }
 
 -- the rule, where the semaphore was found
 abbrev obtain_row : ℕ → ℕ → Wish → Plain → Outcome
 obtain_row t i wish k = obtained_at k t i (obtaining t wish (reaches_from k (semaphore_at k i).owner t) (semaphore_at k i))
 
--- what an obtain comes to, as the code has it
-comes_to : (old : List ClusterPart) (groups : List GroupPart) (t i : ℕ) (by : Caller) (wish : Wish) (owner : Option ℕ) (closes : Bool) → by.thread ≡ t → owner ≡ (semaphore_lent groups i).owner → closes ≡ reaches_from (lent_both old groups) owner t → obtaining t wish (reaches_from (lent_both old groups) (semaphore_lent groups i).owner t) (semaphore_lent groups i) ≡ obtaining by.thread wish closes (semaphore_lent groups i)
-comes_to old groups t i by wish owner closes thread owned reached =
-    ap (λ o. obtaining t wish (reaches_from (lent_both old groups) o t) (semaphore_lent groups i)) (sym owned) ∙ ap (λ b. obtaining t wish b (semaphore_lent groups i)) (sym reached) ∙ ap (λ n. obtaining n wish closes (semaphore_lent groups i)) (sym thread)
+-- what an obtain comes to, as the code has it: whether it closes a cycle decides nothing for one that doesn't wish to wait
+comes_to : (old : List ClusterPart) (groups : List GroupPart) (t i : ℕ) (by : Caller) (wish : Wish) (owner : Option ℕ) (closes : Bool) → by.thread ≡ t → owner ≡ (semaphore_lent groups i).owner → ((ticks : ℕ) → wish ≡ Limit ticks → closes ≡ reaches_from (lent_both old groups) owner t) → obtaining t wish (reaches_from (lent_both old groups) (semaphore_lent groups i).owner t) (semaphore_lent groups i) ≡ obtaining by.thread wish closes (semaphore_lent groups i)
+comes_to old groups t i by wish owner closes thread owned reached = wishing wish refl where
+  wishing : (w : Wish) → wish ≡ w → obtaining t w (reaches_from (lent_both old groups) (semaphore_lent groups i).owner t) (semaphore_lent groups i) ≡ obtaining by.thread w closes (semaphore_lent groups i)
+  wishing NoWait e = ap (λ n. obtaining n NoWait closes (semaphore_lent groups i)) (sym thread)
+  wishing (Limit ticks) e =
+      ap (λ o. obtaining t (Limit ticks) (reaches_from (lent_both old groups) o t) (semaphore_lent groups i)) (sym owned)
+      ∙ ap (λ b. obtaining t (Limit ticks) b (semaphore_lent groups i)) (sym (reached ticks e))
+      ∙ ap (λ n. obtaining n (Limit ticks) closes (semaphore_lent groups i)) (sym thread)
 
 -- The row of an obtain that doesn't wait,
-pub obtains_at_once : (s : Scenario) (old : List ClusterPart) (groups groups' : List GroupPart) (t i : ℕ) (by : Caller) (wish : Wish) (owner : Option ℕ) (closes : Bool) (reply : Reply) → by.thread ≡ t → owner ≡ (semaphore_lent groups i).owner → closes ≡ reaches_from (lent_both old groups) owner t → reply ≡ reply_to_obtain by wish closes (semaphore_lent groups i) → (reply.status ≡ Waits → ⊥) → PutsSemaphore groups i (obtained by wish closes (semaphore_lent groups i)) groups' → DoesBoth s (λ k. obtained_at k t i (obtaining t wish (reaches_from k (semaphore_at k i).owner t) (semaphore_at k i))) (answered reply) old groups old groups'
-obtains_at_once s old groups groups' t i by wish owner closes reply thread owned reached is other puts =
+pub obtains_at_once : (s : Scenario) (old new : List ClusterPart) (groups groups' : List GroupPart) (t i : ℕ) (by : Caller) (wish : Wish) (owner : Option ℕ) (closes : Bool) (reply : Reply) → by.thread ≡ t → owner ≡ (semaphore_lent groups i).owner → ((ticks : ℕ) → wish ≡ Limit ticks → closes ≡ reaches_from (lent_both old groups) owner t) → reply ≡ reply_to_obtain by wish closes (semaphore_lent groups i) → (reply.status ≡ Waits → ⊥) → PutsSemaphore groups i (obtained by wish closes (semaphore_lent groups i)) groups' → Comes s (λ k. k) old new → KeepsHeld old groups new groups' → DoesBoth s (λ k. obtained_at k t i (obtaining t wish (reaches_from k (semaphore_at k i).owner t) (semaphore_at k i))) (answered reply) old groups new groups'
+obtains_at_once s old new groups groups' t i by wish owner closes reply thread owned reached is other puts comes held =
     let o = obtaining by.thread wish closes (semaphore_lent groups i) in
-    same_row s (λ k. obtained_at k t i o) (obtain_row t i wish) (answered reply) old old groups groups' (λ table. ap (obtained_at (joined s table old groups) t i) (comes_to old groups t i by wish owner closes thread owned reached))
-    (obtains_now s old groups groups' t i by wish closes reply thread is other puts)
+    same_row s (λ k. obtained_at k t i o) (obtain_row t i wish) (answered reply) old new groups groups' (λ table. ap (obtained_at (joined s table old groups) t i) (comes_to old groups t i by wish owner closes thread owned reached))
+    (obtains_now s old new groups groups' t i by wish closes reply thread comes held is other puts)
 
 -- and of one that waits.
-pub obtains_by_waiting : (s : Scenario) (old new : List ClusterPart) (groups groups' : List GroupPart) (t i : ℕ) (by : Caller) (wish : Wish) (owner : Option ℕ) (closes : Bool) (ticks : ℕ) (reply : Reply) → by.thread ≡ t → by.home ≡ (thread_lent old t).home → by.prio ≡ home_prio (lent old) t → owner ≡ (semaphore_lent groups i).owner → closes ≡ reaches_from (lent_both old groups) owner t → ticks ≡ ticks_of wish → reply ≡ reply_to_obtain by wish closes (semaphore_lent groups i) → reply.status ≡ Waits → PutsSemaphore groups i (obtained by wish closes (semaphore_lent groups i)) groups' → Becomes s (λ k. start_limited k t (ForSemaphore i) ticks) old new → DoesBoth s (λ k. obtained_at k t i (obtaining t wish (reaches_from k (semaphore_at k i).owner t) (semaphore_at k i))) told.Waiting old groups new groups'
+pub obtains_by_waiting : (s : Scenario) (old new : List ClusterPart) (groups groups' : List GroupPart) (t i : ℕ) (by : Caller) (wish : Wish) (owner : Option ℕ) (closes : Bool) (ticks : ℕ) (reply : Reply) → by.thread ≡ t → by.home ≡ (thread_lent old t).home → by.prio ≡ home_prio (lent old) t → owner ≡ (semaphore_lent groups i).owner → ((ticks : ℕ) → wish ≡ Limit ticks → closes ≡ reaches_from (lent_both old groups) owner t) → ticks ≡ ticks_of wish → reply ≡ reply_to_obtain by wish closes (semaphore_lent groups i) → reply.status ≡ Waits → PutsSemaphore groups i (obtained by wish closes (semaphore_lent groups i)) groups' → Becomes s (λ k. start_limited k t (ForSemaphore i) ticks) old new → DoesBoth s (λ k. obtained_at k t i (obtaining t wish (reaches_from k (semaphore_at k i).owner t) (semaphore_at k i))) told.Waiting old groups new groups'
 obtains_by_waiting s old new groups groups' t i by wish owner closes ticks reply thread home urgency owned reached limit is waits puts becomes =
     let o = obtaining by.thread wish closes (semaphore_lent groups i) in
     same_row s (λ k. obtained_at k t i o) (obtain_row t i wish) told.Waiting old new groups groups' (λ table. ap (obtained_at (joined s table old groups) t i) (comes_to old groups t i by wish owner closes thread owned reached))
     (obtains_later s old new groups groups' t i by wish closes ticks reply limit thread home urgency is waits puts becomes)
+
+-- the owner after an obtain, where it is another, is the caller
+pub obtained_owner : (by : Caller) (wish : Wish) (closes : Bool) (sem : SemaphoreState) (t : ℕ) → (obtained by wish closes sem).owner ≡ Some t → (sem.owner ≡ Some t → ⊥) → by.thread ≡ t
+obtained_owner by wish closes sem t = by_obtaining (λ o. (after_obtaining o by sem).owner ≡ Some t → (sem.owner ≡ Some t → ⊥) → by.thread ≡ t) by.thread wish closes sem
+    (λ is other. absurd (other is))
+    (λ is other. taking (is_binary sem.kind) is other)
+    (λ is other. absurd (other is))
+    (λ is other. absurd (other is))
+    (λ ticks e is other. absurd (other is))
+  where
+    taking : (b : Bool) → (let x : SemaphoreState = cond b (owned_by by.thread sem) (record sem { count = sem.count - 1 }) in x).owner ≡ Some t → (sem.owner ≡ Some t → ⊥) → by.thread ≡ t
+    taking true is other = cc
+    taking false is other = absurd (other is)
 
 -- ---- release
 
@@ -210,31 +235,32 @@ by_releasing P t sem not_owner unnests serving full frees = first (is_binary sem
 -- what a release comes to, and the wait that it ends
 abbrev Releases : Scenario → List ClusterPart → List ClusterPart → List GroupPart → List GroupPart → ℕ → List Wake → Reply → SemaphoreState → Releasing → Type 0
 Releases s old new groups groups' i wakes reply sem r =
-    reply ≡ bare (status_of_releasing r) → PutsSemaphore groups i (after_releasing r sem) groups' → wakes ≡ woken_by_releasing r → Becomes s (λ k. woken k wakes) old new → DoesBoth s (λ k. released_at k i r) (answered reply) old groups new groups'
+    reply ≡ bare (status_of_releasing r) → PutsSemaphore groups i (after_releasing r sem) groups' → wakes ≡ woken_by_releasing r → Comes s (λ k. woken k wakes) old new → KeepsHeld old groups new groups' → DoesBoth s (λ k. released_at k i r) (answered reply) old groups new groups'
 
 -- a release of the semaphore as it stands, which serves none
 abbrev ReleasesStill : Scenario → List ClusterPart → List ClusterPart → List GroupPart → List GroupPart → ℕ → List Wake → Reply → Releasing → Type 0
 ReleasesStill s old new groups groups' i wakes reply r = is_serving r ≡ false → Releases s old new groups groups' i wakes reply (semaphore_lent groups i) r
 
 -- no wait ends
-none_woken : (s : Scenario) (old new : List ClusterPart) (wakes : List Wake) → wakes ≡ [] → Becomes s (λ k. woken k wakes) old new → Becomes s (λ k. k) old new
-none_woken s old new wakes none becomes = subst (λ ws. Becomes s (λ k. woken k ws) old new) none becomes
+none_woken : (s : Scenario) (old new : List ClusterPart) (wakes : List Wake) → wakes ≡ [] → Comes s (λ k. woken k wakes) old new → Comes s (λ k. k) old new
+none_woken s old new wakes none comes = subst (λ ws. Comes s (λ k. woken k ws) old new) none comes
 
-still_put : (s : Scenario) (old new : List ClusterPart) (groups groups' : List GroupPart) (i : ℕ) (x : SemaphoreState) (o : Plain → Outcome) (answer : Answer) → PutsSemaphore groups i x groups' → Becomes s (λ k. k) old new → ((k : Plain) → answer ≡ answer_of (o k)) → ((table : Table) → changed (joined s table old groups) (o (joined s table old groups)) ≡ put_semaphore (joined s table old groups) i x) → DoesBoth s o answer old groups new groups'
-still_put s old new groups groups' i x o answer puts becomes told state = record {
+still_put : (s : Scenario) (old new : List ClusterPart) (groups groups' : List GroupPart) (i : ℕ) (x : SemaphoreState) (o : Plain → Outcome) (answer : Answer) → PutsSemaphore groups i x groups' → Comes s (λ k. k) old new → KeepsHeld old groups new groups' → ((k : Plain) → answer ≡ answer_of (o k)) → ((table : Table) → changed (joined s table old groups) (o (joined s table old groups)) ≡ put_semaphore (joined s table old groups) i x) → DoesBoth s o answer old groups new groups'
+still_put s old new groups groups' i x o answer puts becomes held told state = record {
   told = λ table. told (joined s table old groups);
   state = λ table laid. becomes.state table groups' laid ∙ semaphore_joined s table old groups groups' i x puts ∙ sym (state table);
   kept = becomes.kept;
   framed = puts.kept;
+  held = held;
 }
 
 releases_still : (s : Scenario) (old new : List ClusterPart) (groups groups' : List GroupPart) (t i : ℕ) (wakes : List Wake) (reply : Reply) → ReleasesStill s old new groups groups' i wakes reply (releasing t (semaphore_lent groups i))
 releases_still s old new groups groups' t i wakes reply = by_releasing (ReleasesStill s old new groups groups' i wakes reply) t (semaphore_lent groups i)
-    (λ still is puts woke becomes. still_put s old new groups groups' i (semaphore_lent groups i) (λ k. released_at k i (NotReleased NotOwnerOfResource)) (answered reply) puts (none_woken s old new wakes woke becomes) (λ k. ap answered is) (λ table. sym (put_still (joined s table old groups) i)))
-    (λ still is puts woke becomes. still_put s old new groups groups' i (unnested (semaphore_lent groups i)) (λ k. released_at k i Unnests) (answered reply) puts (none_woken s old new wakes woke becomes) (λ k. ap answered is) (λ table. refl))
-    (λ u still is puts woke becomes. absurd (false≢true (sym still)))
-    (λ still is puts woke becomes. still_put s old new groups groups' i (semaphore_lent groups i) (λ k. released_at k i (NotReleased Unsatisfied)) (answered reply) puts (none_woken s old new wakes woke becomes) (λ k. ap answered is) (λ table. sym (put_still (joined s table old groups) i)))
-    (λ still is puts woke becomes. still_put s old new groups groups' i (freed (semaphore_lent groups i)) (λ k. released_at k i Frees) (answered reply) puts (none_woken s old new wakes woke becomes) (λ k. ap answered is) (λ table. refl))
+    (λ still is puts woke becomes held. still_put s old new groups groups' i (semaphore_lent groups i) (λ k. released_at k i (NotReleased NotOwnerOfResource)) (answered reply) puts (none_woken s old new wakes woke becomes) held (λ k. ap answered is) (λ table. sym (put_still (joined s table old groups) i)))
+    (λ still is puts woke becomes held. still_put s old new groups groups' i (unnested (semaphore_lent groups i)) (λ k. released_at k i Unnests) (answered reply) puts (none_woken s old new wakes woke becomes) held (λ k. ap answered is) (λ table. refl))
+    (λ u still is puts woke becomes held. absurd (false≢true (sym still)))
+    (λ still is puts woke becomes held. still_put s old new groups groups' i (semaphore_lent groups i) (λ k. released_at k i (NotReleased Unsatisfied)) (answered reply) puts (none_woken s old new wakes woke becomes) held (λ k. ap answered is) (λ table. sym (put_still (joined s table old groups) i)))
+    (λ still is puts woke becomes held. still_put s old new groups groups' i (freed (semaphore_lent groups i)) (λ k. released_at k i Frees) (answered reply) puts (none_woken s old new wakes woke becomes) held (λ k. ap answered is) (λ table. refl))
 
 -- without waiters a queue is up to date
 none_waits : (k : Plain) (sem : SemaphoreState) → sem.queue.arrivals ≡ [] → up_to_date k sem ≡ sem
@@ -323,9 +349,9 @@ ReleasesNow s old new groups groups' i wakes reply r = is_serving r ≡ true →
 
 releases_now : (s : Scenario) (old new : List ClusterPart) (groups groups' : List GroupPart) (t i : ℕ) (wakes : List Wake) (reply : Reply) → ReleasesNow s old new groups groups' i wakes reply (releasing t (up_to_date (lent old) (semaphore_lent groups i)))
 releases_now s old new groups groups' t i wakes reply = by_releasing (ReleasesNow s old new groups groups' i wakes reply) t (up_to_date (lent old) (semaphore_lent groups i))
-    (λ serving is puts woke becomes. absurd (false≢true serving))
-    (λ serving is puts woke becomes. absurd (false≢true serving))
-    (λ u serving is puts woke becomes. record {
+    (λ serving is puts woke becomes held. absurd (false≢true serving))
+    (λ serving is puts woke becomes held. absurd (false≢true serving))
+    (λ u serving is puts woke becomes held. record {
       told = λ table. ap answered is;
       state = λ table laid. (
           let k = joined s table old groups in
@@ -336,9 +362,10 @@ releases_now s old new groups groups' t i wakes reply = by_releasing (ReleasesNo
           ∙ ap (λ x. stop_wait (put_semaphore k i (handed_to u x)) u (bare Successful)) (up_to_date_lent s table old groups (semaphore_lent groups i)));
       kept = becomes.kept;
       framed = puts.kept;
+      held = held;
     })
-    (λ serving is puts woke becomes. absurd (false≢true serving))
-    (λ serving is puts woke becomes. absurd (false≢true serving))
+    (λ serving is puts woke becomes held. absurd (false≢true serving))
+    (λ serving is puts woke becomes held. absurd (false≢true serving))
 
 -- one of these that live lives
 live_one : (parts : List ClusterPart) (u : ℕ) (ts : List ℕ) → has ts u ≡ true → AllLive parts (ended_waits Successful ts) → has_begun (thread_lent parts u).life ≡ true
@@ -365,14 +392,15 @@ dated_threads : (k : Plain) (sem : SemaphoreState) → threads (up_to_date k sem
 dated_threads k sem = up_to_date_threads k sem.queue.order sem.queue
 
 -- The row of a release, where the semaphore serves none.
-releases_none : (s : Scenario) (old new : List ClusterPart) (groups groups' : List GroupPart) (t i : ℕ) (wakes : List Wake) (reply : Reply) → IsQueue (semaphore_lent groups i).queue.arrivals (semaphore_lent groups i).queue.turns → serves t (semaphore_lent groups i) ≡ false → reply ≡ reply_to_release t (semaphore_lent groups i) → PutsSemaphore groups i (released t (semaphore_lent groups i)) groups' → wakes ≡ woken_by_release t (semaphore_lent groups i) → Becomes s (λ k. woken k wakes) old new → DoesBoth s (λ k. released_at k i (releasing t (up_to_date k (semaphore_at k i)))) (answered reply) old groups new groups'
-releases_none s old new groups groups' t i wakes reply queue still is puts woke becomes =
-    let does = releases_still s old new groups groups' t i wakes reply still is puts woke becomes in
+releases_none : (s : Scenario) (old new : List ClusterPart) (groups groups' : List GroupPart) (t i : ℕ) (wakes : List Wake) (reply : Reply) → IsQueue (semaphore_lent groups i).queue.arrivals (semaphore_lent groups i).queue.turns → serves t (semaphore_lent groups i) ≡ false → reply ≡ reply_to_release t (semaphore_lent groups i) → PutsSemaphore groups i (released t (semaphore_lent groups i)) groups' → wakes ≡ woken_by_release t (semaphore_lent groups i) → Comes s (λ k. woken k wakes) old new → KeepsHeld old groups new groups' → DoesBoth s (λ k. released_at k i (releasing t (up_to_date k (semaphore_at k i)))) (answered reply) old groups new groups'
+releases_none s old new groups groups' t i wakes reply queue still is puts woke becomes held =
+    let does = releases_still s old new groups groups' t i wakes reply still is puts woke becomes held in
     record {
       told = λ table. (let k = joined s table old groups in does.told table ∙ ap (λ r. answer_of (released_at k i r)) (sym (still_same k t (semaphore_lent groups i) queue still)));
       state = λ table laid. (let k = joined s table old groups in does.state table laid ∙ ap (λ r. changed k (released_at k i r)) (sym (still_same k t (semaphore_lent groups i) queue still)));
       kept = does.kept;
       framed = does.framed;
+      held = does.held;
     }
 
 -- a semaphore that was put twice is as it was put last
@@ -395,17 +423,18 @@ put_there old mid i x low high puts =
     nth_of xs = nth no_semaphore xs i
 
 -- The row of a release, where the semaphore serves a waiter, before which its queue was brought up to date.
-releases_served : (s : Scenario) (old new : List ClusterPart) (groups mid groups' : List GroupPart) (t i : ℕ) (wakes : List Wake) (reply : Reply) → 1 ≤ i → i ≤ 64 → IsQueue (semaphore_lent groups i).queue.arrivals (semaphore_lent groups i).queue.turns → serves t (semaphore_lent groups i) ≡ true → PutsSemaphore groups i (up_to_date (lent old) (semaphore_lent groups i)) mid → reply ≡ reply_to_release t (semaphore_lent mid i) → PutsSemaphore mid i (released t (semaphore_lent mid i)) groups' → wakes ≡ woken_by_release t (semaphore_lent mid i) → Becomes s (λ k. woken k wakes) old new → DoesBoth s (λ k. released_at k i (releasing t (up_to_date k (semaphore_at k i)))) (answered reply) old groups new groups'
-releases_served s old new groups mid groups' t i wakes reply low high queue serving dated is puts woke becomes =
+releases_served : (s : Scenario) (old new : List ClusterPart) (groups mid groups' : List GroupPart) (t i : ℕ) (wakes : List Wake) (reply : Reply) → 1 ≤ i → i ≤ 64 → IsQueue (semaphore_lent groups i).queue.arrivals (semaphore_lent groups i).queue.turns → serves t (semaphore_lent groups i) ≡ true → PutsSemaphore groups i (up_to_date (lent old) (semaphore_lent groups i)) mid → reply ≡ reply_to_release t (semaphore_lent mid i) → PutsSemaphore mid i (released t (semaphore_lent mid i)) groups' → wakes ≡ woken_by_release t (semaphore_lent mid i) → Comes s (λ k. woken k wakes) old new → KeepsHeld old groups new groups' → DoesBoth s (λ k. released_at k i (releasing t (up_to_date k (semaphore_at k i)))) (answered reply) old groups new groups'
+releases_served s old new groups mid groups' t i wakes reply low high queue serving dated is puts woke becomes held =
     let sem = up_to_date (lent old) (semaphore_lent groups i) in
     let there = put_there groups mid i sem low high dated in
     let done_there : PutsSemaphore groups i (released t sem) groups' = put_twice groups mid groups' i sem (released t sem) dated (subst (λ x. PutsSemaphore mid i (released t x) groups') there puts) in
-    let does = releases_now s old new groups groups' t i wakes reply (still_serves (lent old) t (semaphore_lent groups i) queue serving) (is ∙ ap (reply_to_release t) there) done_there (woke ∙ ap (woken_by_release t) there) becomes in
+    let does = releases_now s old new groups groups' t i wakes reply (still_serves (lent old) t (semaphore_lent groups i) queue serving) (is ∙ ap (reply_to_release t) there) done_there (woke ∙ ap (woken_by_release t) there) becomes held in
     record {
       told = λ table. (let k = joined s table old groups in does.told table ∙ ap (λ x. answer_of (released_at k i (releasing t x))) (up_to_date_lent s table old groups (semaphore_lent groups i)));
       state = λ table laid. (let k = joined s table old groups in does.state table laid ∙ ap (λ x. changed k (released_at k i (releasing t x))) (up_to_date_lent s table old groups (semaphore_lent groups i)));
       kept = does.kept;
       framed = does.framed;
+      held = does.held;
     }
 
 -- Before a release the queue was brought up to date where it serves a waiter, and else nothing changed.
@@ -421,13 +450,38 @@ prepared_live parts groups mid t i low high queue (inr same) =
     subst (λ gs. AllLive parts (woken_by_release t (semaphore_lent gs i))) (sym same.1) (released_live parts groups t i (semaphore_lent groups i) queue refl)
 
 -- and the release comes to what the rule says.
-pub releases_prepared : (s : Scenario) (old new : List ClusterPart) (groups mid groups' : List GroupPart) (t i : ℕ) (wakes : List Wake) (reply : Reply) (answer : Answer) → 1 ≤ i → i ≤ 64 → IsQueue (semaphore_lent groups i).queue.arrivals (semaphore_lent groups i).queue.turns → IsPrepared old groups t i mid → answer ≡ answered reply → reply ≡ reply_to_release t (semaphore_lent mid i) → PutsSemaphore mid i (released t (semaphore_lent mid i)) groups' → wakes ≡ woken_by_release t (semaphore_lent mid i) → Becomes s (λ k. woken k wakes) old new → DoesBoth s (λ k. released_at k i (releasing t (up_to_date k (semaphore_at k i)))) answer old groups new groups'
-releases_prepared s old new groups mid groups' t i wakes reply answer low high queue prepared told is puts woke becomes =
+pub releases_prepared : (s : Scenario) (old new : List ClusterPart) (groups mid groups' : List GroupPart) (t i : ℕ) (wakes : List Wake) (reply : Reply) (answer : Answer) → 1 ≤ i → i ≤ 64 → IsQueue (semaphore_lent groups i).queue.arrivals (semaphore_lent groups i).queue.turns → IsPrepared old groups t i mid → answer ≡ answered reply → reply ≡ reply_to_release t (semaphore_lent mid i) → PutsSemaphore mid i (released t (semaphore_lent mid i)) groups' → wakes ≡ woken_by_release t (semaphore_lent mid i) → Comes s (λ k. woken k wakes) old new → KeepsHeld old groups new groups' → DoesBoth s (λ k. released_at k i (releasing t (up_to_date k (semaphore_at k i)))) answer old groups new groups'
+releases_prepared s old new groups mid groups' t i wakes reply answer low high queue prepared told is puts woke becomes held =
     subst (λ (a : Answer). DoesBoth s (λ k. released_at k i (releasing t (up_to_date k (semaphore_at k i)))) a old groups new groups') (sym told) (by prepared)
   where
     by : IsPrepared old groups t i mid → DoesBoth s (λ k. released_at k i (releasing t (up_to_date k (semaphore_at k i)))) (answered reply) old groups new groups'
-    by (inl dated) = releases_served s old new groups mid groups' t i wakes reply low high queue dated.0 dated.1 is puts woke becomes
-    by (inr same) = releases_none s old new groups groups' t i wakes reply queue same.0 (is ∙ ap (λ gs. reply_to_release t (semaphore_lent gs i)) same.1) (subst (λ gs. PutsSemaphore gs i (released t (semaphore_lent gs i)) groups') same.1 puts) (woke ∙ ap (λ gs. woken_by_release t (semaphore_lent gs i)) same.1) becomes
+    by (inl dated) = releases_served s old new groups mid groups' t i wakes reply low high queue dated.0 dated.1 is puts woke becomes held
+    by (inr same) = releases_none s old new groups groups' t i wakes reply queue same.0 (is ∙ ap (λ gs. reply_to_release t (semaphore_lent gs i)) same.1) (subst (λ gs. PutsSemaphore gs i (released t (semaphore_lent gs i)) groups') same.1 puts) (woke ∙ ap (λ gs. woken_by_release t (semaphore_lent gs i)) same.1) becomes held
+
+-- the owner after a release, where it is another, lives
+released_by : (parts : List ClusterPart) (sem : SemaphoreState) (u : ℕ) (r : Releasing) → AllLive parts (woken_by_releasing r) → (after_releasing r sem).owner ≡ Some u → (sem.owner ≡ Some u → ⊥) → has_begun (thread_lent parts u).life ≡ true
+released_by parts sem u (NotReleased status) live is other = absurd (other is)
+released_by parts sem u Unnests live is other = absurd (other is)
+released_by parts sem u Frees live is other = absurd (freeing sem.kind is) where
+  freeing : (kind : SemKind) → (freed_by kind sem).owner ≡ Some u → ⊥
+  freeing Counting e = other e
+  freeing Simple e = other e
+  freeing Binary e = cc
+released_by parts sem u (Serves v) live is other = giving (is_binary sem.kind) is where
+  given : SemaphoreState
+  given = record sem { queue = served_by v sem.queue }
+
+  giving : (b : Bool) → (let x : SemaphoreState = cond b (owned_by v given) given in x).owner ≡ Some u → has_begun (thread_lent parts u).life ≡ true
+  giving true e = let same : v ≡ u = cc in ap (λ n. has_begun (thread_lent parts n).life) (sym same) ∙ live.0
+  giving false e = absurd (other e)
+
+pub released_owner : (parts : List ClusterPart) (t u : ℕ) (sem : SemaphoreState) → AllLive parts (woken_by_release t sem) → (released t sem).owner ≡ Some u → (sem.owner ≡ Some u → ⊥) → has_begun (thread_lent parts u).life ≡ true
+released_owner parts t u sem live is other = released_by parts sem u (releasing t sem) live is other
+
+-- to bring a queue up to date changes no owner
+pub prepared_owners : (old : List ClusterPart) (groups mid : List GroupPart) (t i : ℕ) → IsPrepared old groups t i mid → KeepsOwners groups mid
+prepared_owners old groups mid t i (inl dated) = put_owners groups mid i (up_to_date (lent old) (semaphore_lent groups i)) dated.1 refl
+prepared_owners old groups mid t i (inr same) = λ j. ap (λ gs. (semaphore_lent gs j).owner) same.1
 
 -- ---- flush and delete
 
@@ -450,6 +504,7 @@ flushes s old new groups groups' i wakes puts woke becomes = record {
   state = λ table laid. becomes.state table groups' laid ∙ emptied s table old new groups groups' i (flushed (semaphore_lent groups i)) Unsatisfied wakes puts woke;
   kept = becomes.kept;
   framed = puts.kept;
+  held = still_held old new groups groups' becomes.held (put_owners groups groups' i (flushed (semaphore_lent groups i)) puts refl);
 }
 
 -- all that wait for a semaphore live
@@ -484,17 +539,19 @@ removes s old new groups groups' table table' i wakes unowned puts woke becomes 
       laid = λ laid. laid_kept s.clusters old new becomes.kept laid;
       kept = ap (λ (f : Frame). f.stored) becomes.kept;
       framed = puts.kept;
+      held = still_held old new groups groups' becomes.held (put_owners groups groups' i no_semaphore gone (sym unowned));
     }
 
 -- ---- create
 
-pub creates : (s : Scenario) (parts : List ClusterPart) (groups groups' : List GroupPart) (table table' : Table) (t name index : ℕ) (spec : SemSpec) (urgency by : ℕ) (refusal : Option Status) (answer : Answer) → by ≡ t → urgency ≡ home_prio (lent parts) t → refusal ≡ create_refusal spec urgency → ((k : Plain) → Creates (with_table k table) Semaphore name refusal (Ok index) (with_table k table')) → answer ≡ told.Done Successful (id_of Semaphore index) None → PutsSemaphore groups index (new_semaphore spec by) groups' → DoesEvery s (λ k. semaphore_create k t name spec) answer parts groups table parts groups' table'
-creates s parts groups groups' table table' t name index spec urgency by refusal answer thread home refused made is puts = record {
+pub creates : (s : Scenario) (parts new : List ClusterPart) (groups groups' : List GroupPart) (table table' : Table) (t name index : ℕ) (spec : SemSpec) (urgency by : ℕ) (refusal : Option Status) (answer : Answer) → by ≡ t → urgency ≡ home_prio (lent parts) t → refusal ≡ create_refusal spec urgency → ((k : Plain) → Creates (with_table k table) Semaphore name refusal (Ok index) (with_table k table')) → answer ≡ told.Done Successful (id_of Semaphore index) None → PutsSemaphore groups index (new_semaphore spec by) groups' → Comes s (λ k. k) parts new → KeepsHeld parts groups new groups' → DoesEvery s (λ k. semaphore_create k t name spec) answer parts groups table new groups' table'
+creates s parts new groups groups' table table' t name index spec urgency by refusal answer thread home refused made is puts comes held = record {
   told = is ∙ ap answer_of (sym row);
-  state = λ laid. semaphore_joined s table' parts groups groups' index (new_semaphore spec t) (subst (λ u. PutsSemaphore groups index (new_semaphore spec u) groups') thread puts) ∙ ap (changed k) (sym row);
-  laid = λ laid. laid;
-  kept = refl;
+  state = λ laid. comes.state table' groups' laid ∙ semaphore_joined s table' parts groups groups' index (new_semaphore spec t) (subst (λ u. PutsSemaphore groups index (new_semaphore spec u) groups') thread puts) ∙ ap (changed k) (sym row);
+  laid = λ laid. laid_kept s.clusters parts new comes.kept laid;
+  kept = ap (λ (f : Frame). f.stored) comes.kept;
   framed = puts.kept;
+  held = held;
 } where
   k : Plain
   k = joined s table parts groups
@@ -505,6 +562,13 @@ creates s parts groups groups' table table' t name index spec urgency by refusal
   row : semaphore_create k t name spec ≡ done (id_of Semaphore index) (place index (with_table k table'))
   row = ap (λ p. create k Semaphore name (create_refusal spec p) place) (sym (home ∙ home_prio_lent s table parts groups t)) ∙ ap (λ r. create k Semaphore name r place) (sym refused) ∙ made k place
 
+-- the owner of one that was created, if it has one, is its creator
+pub created_owner : (spec : SemSpec) (t u : ℕ) → (new_semaphore spec t).owner ≡ Some u → t ≡ u
+created_owner spec t u is = by (is_binary spec.kind && (spec.count == 0)) is where
+  by : (b : Bool) → (let x : SemaphoreState = cond b (owned_by t (free_semaphore spec)) (free_semaphore spec) in x).owner ≡ Some u → t ≡ u
+  by true e = cc
+  by false e = let no : ⊥ = cc in absurd no
+
 pub creates_none : (s : Scenario) (parts : List ClusterPart) (groups : List GroupPart) (table table' : Table) (t name : ℕ) (spec : SemSpec) (urgency : ℕ) (refusal : Option Status) (status : Status) → urgency ≡ home_prio (lent parts) t → refusal ≡ create_refusal spec urgency → ((k : Plain) → Creates (with_table k table) Semaphore name refusal (Err status) (with_table k table')) → DoesEvery s (λ k. semaphore_create k t name spec) (told.Refused status) parts groups table parts groups table'
 creates_none s parts groups table table' t name spec urgency refusal status home refused made = record {
   told = ap answer_of (sym row);
@@ -512,6 +576,7 @@ creates_none s parts groups table table' t name spec urgency refusal status home
   laid = λ laid. laid;
   kept = refl;
   framed = refl;
+  held = λ h. h;
 } where
   k : Plain
   k = joined s table parts groups
@@ -572,14 +637,6 @@ one_dated k (suc n) t (waiter ∷ waiters) dated there =
     let rest = tail_of waiter (with_present_prio k waiter) (take n waiters) (take n (map (with_present_prio k) waiters)) dated in
     both_dated k (suc n) t waiter waiters (gets_dated k t (waiter.thread == t) waiter refl (inr was)) (one_dated k n t waiters rest there)
 
--- and where there is no next one
-none_dated : (k : Plain) (n : ℕ) (waiters : List Waiter) → AreDated k n waiters → slice_get (threads waiters) n ≡ None → AreDated k (suc n) waiters
-none_dated k n [] dated there = refl
-none_dated k zero (waiter ∷ waiters) dated there = let no : ⊥ = cc in absurd no
-none_dated k (suc n) (waiter ∷ waiters) dated there =
-    ap (λ w. w ∷ take (suc n) waiters) (head_of waiter (with_present_prio k waiter) (take n waiters) (take n (map (with_present_prio k) waiters)) dated)
-    ∙ ap (λ ws. with_present_prio k waiter ∷ ws) (none_dated k n waiters (tail_of waiter (with_present_prio k waiter) (take n waiters) (take n (map (with_present_prio k) waiters)) dated) there)
-
 next_of : (n : ℕ) → suc n ≡ n + 1
 next_of n = omega arith
 
@@ -599,10 +656,6 @@ dating_next k n t prio before now dating there is = record {
   all = ap (λ p. map (with_present_prio k) (with_prio t p now.queue.arrivals)) is ∙ prio_again k t now.queue.arrivals ∙ dating.all;
   first = subst (λ p. AreDated k (n + 1) (with_prio t p now.queue.arrivals)) (sym is) (subst (λ m. AreDated k m (with_prio t (home_prio k t) now.queue.arrivals)) (next_of n) (one_dated k n t now.queue.arrivals dating.first there));
 }
-
--- there is none
-pub dating_past : (k : Plain) (n : ℕ) (before now : SemaphoreState) → IsDating k n before now → slice_get (threads now.queue.arrivals) n ≡ None → IsDating k (n + 1) before now
-dating_past k n before now dating there = record { same = dating.same; all = dating.all; first = subst (λ m. AreDated k m now.queue.arrivals) (next_of n) (none_dated k n now.queue.arrivals dating.first there) }
 
 -- and all have theirs, where there are no more
 pub dating_ends : (k : Plain) (n : ℕ) (before now : SemaphoreState) → IsDating k n before now → length now.queue.arrivals ≤ n → now ≡ record before { queue = up_to_date_by k Priority before.queue }
@@ -634,8 +687,14 @@ updating_next k n old mid now i t prio low high updating there is puts =
       dating = subst (IsDating k (n + 1) (semaphore_lent old i)) stands (dating_next k n t prio (semaphore_lent old i) (semaphore_lent mid i) updating.dating there is);
     }
 
-pub updating_past : (k : Plain) (n : ℕ) (old now : List GroupPart) (i : ℕ) → IsUpdating k n old i now → slice_get (threads (semaphore_lent now i).queue.arrivals) n ≡ None → IsUpdating k (n + 1) old i now
-updating_past k n old now i updating there = record { puts = updating.puts; dating = dating_past k n (semaphore_lent old i) (semaphore_lent now i) updating.dating there }
+-- there are no more waiters
+no_more : (waiters : List Waiter) (n : ℕ) → slice_get (threads waiters) n ≡ None → length waiters ≤ n
+no_more [] n there = omega arith
+no_more (waiter ∷ waiters) zero there = let no : ⊥ = cc in absurd no
+no_more (waiter ∷ waiters) (suc n) there = omega (arith, no_more waiters n there)
+
+pub updating_stops : (k : Plain) (n : ℕ) (old now : List GroupPart) (i : ℕ) → IsUpdating k n old i now → slice_get (threads (semaphore_lent now i).queue.arrivals) n ≡ None → PutsSemaphore old i (let x : SemaphoreState = record (semaphore_lent old i) { queue = up_to_date_by k Priority (semaphore_lent old i).queue } in x) now
+updating_stops k n old now i updating there = subst (λ y. PutsSemaphore old i y now) (dating_ends k n (semaphore_lent old i) (semaphore_lent now i) updating.dating (no_more (semaphore_lent now i).queue.arrivals n there)) updating.puts
 
 pub updating_ends : (k : Plain) (n : ℕ) (old now : List GroupPart) (i : ℕ) → IsUpdating k n old i now → length (semaphore_lent old i).queue.arrivals ≤ n → PutsSemaphore old i (let x : SemaphoreState = record (semaphore_lent old i) { queue = up_to_date_by k Priority (semaphore_lent old i).queue } in x) now
 updating_ends k n old now i updating few =
@@ -670,7 +729,7 @@ accepted_judged spec urgency by same accepted = ap (λ p. status_of_refusal (spe
 
 -- a row that is done where the state becomes this
 pub done_both : (s : Scenario) (change : Plain → Plain) (old new : List ClusterPart) (groups groups' : List GroupPart) (answer : Answer) → answer ≡ told.Done Successful 0 None → BecomesBoth s change old groups new groups' → DoesBoth s (λ k. done 0 (change k)) answer old groups new groups'
-done_both s change old new groups groups' answer is becomes = record { told = λ table. is; state = becomes.state; kept = becomes.kept; framed = becomes.framed }
+done_both s change old new groups groups' answer is becomes = record { told = λ table. is; state = becomes.state; kept = becomes.kept; framed = becomes.framed; held = becomes.held }
 
 -- ---- what a caller deletes
 
@@ -684,6 +743,7 @@ deletes_owned s old groups table i t owned =
       laid = λ laid. laid;
       kept = refl;
       framed = refl;
+      held = λ h. h;
     }
 
 pub deletes_unowned : (s : Scenario) (old new : List ClusterPart) (groups groups' : List GroupPart) (table table' : Table) (i : ℕ) (answer : Answer) → (semaphore_lent groups i).owner ≡ None → answer ≡ told.Done Successful 0 None → BecomesEvery s (λ k. without_semaphore k i) old groups table new groups' table' → DoesEvery s (λ k. deleted_at k i) answer old groups table new groups' table'
@@ -696,4 +756,5 @@ deletes_unowned s old new groups groups' table table' i answer unowned is become
       laid = becomes.laid;
       kept = becomes.kept;
       framed = becomes.framed;
+      held = becomes.held;
     }

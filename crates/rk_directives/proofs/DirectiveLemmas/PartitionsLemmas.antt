@@ -27,6 +27,7 @@ use Rattle.rk_parts.proofs.PartitionGroupLemmas.{partition_joined}
 use Rattle.rk_directives.specs.Calls.{IsCaller}
 use Rattle.rk_directives.specs.Does.{DoesBoth, DoesGroups, Creates, answered, with_table}
 use Rattle.rk_directives.specs.Sound.{IsSound, IsGentle}
+use Rattle.rk_directives.proofs.KeptHoldingLemmas.{still_held, same_owners}
 use Rattle.rk_directives.proofs.GentleChangeLemmas.{Stays, gentle_same}
 use Rattle.rk_directives.proofs.NamesAgreeLemmas.{named_stored, named_divided, named_emptied}
 use Rattle.rk_directives.proofs.OutcomeLemmas.{IsFair, stays_as, fair_refused, fair_done, fair_found, fair_if, fair_create, fair_ident}
@@ -112,6 +113,7 @@ takes s clusters groups groups' i reply answer puts is told = record {
   state = λ table laid. (let k = joined s table clusters groups in partition_joined s table clusters groups groups' i (without_first (partition_lent groups i)) puts ∙ get_state k i (partition_at k i).free refl);
   kept = refl;
   framed = puts.kept;
+  held = still_held clusters clusters groups groups' refl (same_owners groups groups' puts.semaphores);
 }
 
 return_answer : (k : Plain) (i address : ℕ) (out : Bool) → answered (cond out (successful 0) (refused InvalidAddress)) ≡ answer_of (cond out (done 0 (put_partition k i (with_free (partition_at k i) address))) (Refused InvalidAddress))
@@ -129,6 +131,7 @@ gives_back s clusters groups groups' i address reply answer puts is told = recor
   state = λ table laid. (let k = joined s table clusters groups in partition_joined s table clusters groups groups' i (returned address (partition_lent groups i)) puts ∙ return_state k i address (is_out (partition_at k i) address));
   kept = refl;
   framed = puts.kept;
+  held = still_held clusters clusters groups groups' refl (same_owners groups groups' puts.semaphores);
 }
 
 -- the address that a caller gives
@@ -138,6 +141,7 @@ gives_back_named s clusters groups groups' t i bits address answer is does = rec
   state = λ table laid. (let k = joined s table clusters groups in does.state table laid ∙ ap (λ b. changed k (given_back_to k i b)) is);
   kept = does.kept;
   framed = does.framed;
+  held = does.held;
 }
 
 -- what the reply to a delete says of the partition
@@ -159,6 +163,7 @@ removes s groups groups' table table' i answer unused puts is removed = record {
       ∙ removed (put_partition k i no_partition)
       ∙ ap (λ b. changed k (cond b (Refused ResourceInUse) (done 0 (without_partition k i)))) (sym unused));
   framed = puts.kept;
+  owners = same_owners groups groups' puts.semaphores;
 }
 
 -- one of which a buffer is out stays
@@ -173,6 +178,7 @@ keeps s groups groups' table i status used puts is = record {
       ∙ still k i
       ∙ ap (λ b. changed k (cond b (Refused ResourceInUse) (done 0 (without_partition k i)))) (sym used));
   framed = puts.kept;
+  owners = same_owners groups groups' puts.semaphores;
 }
 
 -- ---- part.create
@@ -182,6 +188,7 @@ creates s groups groups' table table' name index start length size refusal answe
   told = λ parts. (let k = joined s table parts groups in is ∙ ap answer_of (sym (row k)));
   state = λ parts. (let k = joined s table parts groups in partition_joined s table' parts groups groups' index (new_partition start length size) puts ∙ ap (changed k) (sym (row k)));
   framed = puts.kept;
+  owners = same_owners groups groups' puts.semaphores;
 } where
   place : ℕ → Plain → Plain
   place index next = put_partition next index (new_partition start length size)
@@ -194,6 +201,7 @@ creates_none s groups table table' name start length size refusal status refused
   told = λ parts. (let k = joined s table parts groups in ap answer_of (sym (row k)));
   state = λ parts. (let k = joined s table parts groups in (made k).1 ∙ ap (changed k) (sym (row k)));
   framed = refl;
+  owners = λ i. refl;
 } where
   place : ℕ → Plain → Plain
   place index next = put_partition next index (new_partition start length size)

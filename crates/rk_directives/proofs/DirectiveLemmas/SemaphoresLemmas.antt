@@ -35,9 +35,9 @@ use Rattle.rk_queue.proofs.ServiceLemmas.{first_waits}
 use Rattle.rk_directives.specs.Calls.{IsCaller}
 use Rattle.rk_directives.specs.Sound.{IsSound, IsGentleBut, IsGentle, AreChained, waits_on_but, but_none, but_one, is_waiting}
 use Rattle.rk_directives.proofs.DirectiveLemmas.ObjectsLemmas.{named_lives}
-use Rattle.rk_directives.proofs.DirectiveLemmas.TasksLemmas.{lives_within}
+use Rattle.rk_parts.proofs.PutLemmas.{lives_within}
 use Rattle.rk_directives.proofs.NamesAgreeLemmas.{first_free, named_obtained, named_founded, named_abandoned}
-use Rattle.rk_directives.proofs.TieLemmas.{HasOneMore, tied_semaphore, semaphore_within}
+use Rattle.rk_directives.proofs.TieLemmas.{HasOneMore, awaited, tied_semaphore, semaphore_within}
 use Rattle.rk_directives.proofs.ThreadBoundsLemmas.{bounds_at}
 use Rattle.rk_directives.proofs.WaitChainLemmas.{IsClearOf, MayJoin, chained_handed, chained_owners}
 use Rattle.rk_directives.proofs.GentleChangeLemmas.{gentle_same, gentle_but_more, gentle_stop_wait, in_call_begun, waits_calls, Stays}
@@ -134,15 +134,6 @@ stopped k m (u ∷ us) reply t thread sound hand apart is =
     front true b e h = false≢true (sym e)
     front false b e h = false≢true h
 
--- who waits for a semaphore waits for nothing else
-awaited : (wait : Option Wait) (i : ℕ) → is_for (object_of_wait wait) (OfSemaphore i) ≡ true → (object_of_wait wait ≡ Some (OfSemaphore i)) × (is_waiting wait ≡ true)
-awaited None i h = absurd (false≢true h)
-awaited (Some ForTime) i h = absurd (false≢true h)
-awaited (Some (ForEvents set all)) i h = absurd (false≢true h)
-awaited (Some (AtBarrier j)) i h = absurd (false≢true h)
-awaited (Some (ForPeriod j)) i h = absurd (false≢true h)
-awaited (Some (ForSemaphore j)) i h = (ap (λ n. Some (OfSemaphore n)) (same_number j i h), refl)
-
 -- who stands in the queue of a semaphore waits for it
 pub stands_for : (k : Plain) (i u : ℕ) → IsSound k → 0 < times u (waiting (semaphore_at k i)) → is_for (object_of_wait (thread_at k u).wait) (OfSemaphore i) ≡ true
 stands_for k i u sound some = by (is_for (object_of_wait (thread_at k u).wait) (OfSemaphore i)) refl (sound.tied.queued u refl (OfSemaphore i)) where
@@ -154,12 +145,12 @@ stands_for k i u sound some = by (is_for (object_of_wait (thread_at k u).wait) (
 taken_out : (k m : Plain) (i : ℕ) (sem : SemaphoreState) (ts : List ℕ) → IsSound k → IsGentleBut k m (λ u. has ts u) → m.threads ≡ k.threads → m.barriers ≡ k.barriers → m.semaphores ≡ with_nth k.semaphores i sem → (semaphore_at k i).live ≡ true → ((u : ℕ) → times u ts ≤ 1) → ((u : ℕ) → has ts u ≡ true → 0 < times u (waiting (semaphore_at k i))) → ((u : ℕ) → has ts u ≡ true → times u (waiting sem) ≡ 0) → AreInHand k m ts
 taken_out k m i sem ts sound gentle threads barriers semaphores lives once stood left = record {
   gentle = gentle;
-  waits = λ u among. ap (λ (xs : List Thread). is_waiting (nth no_thread xs u).wait) threads ∙ (awaited (thread_at k u).wait i (stands_for k i u sound (stood u among))).1;
+  waits = λ u among. ap (λ (xs : List Thread). is_waiting (nth no_thread xs u).wait) threads ∙ (awaited (thread_at k u).wait (OfSemaphore i) (stands_for k i u sound (stood u among))).1;
   gone = λ u among object. ap (λ bs. times u (arrivals_in bs m.semaphores object)) barriers ∙ ap (λ ss. times u (arrivals_in k.barriers ss object)) semaphores ∙ gone_at u among object;
   once = once;
 } where
   elsewhere : (u : ℕ) (object : Object) → has ts u ≡ true → is_for (Some (OfSemaphore i)) object ≡ false → times u (arrivals_in k.barriers k.semaphores object) ≡ 0
-  elsewhere u object among apart = sound.tied.queued u refl object ∙ ap (λ o. cond (is_for o object) 1 0) (awaited (thread_at k u).wait i (stands_for k i u sound (stood u among))).0 ∙ ap (λ b. cond b 1 0) apart
+  elsewhere u object among apart = sound.tied.queued u refl object ∙ ap (λ o. cond (is_for o object) 1 0) (awaited (thread_at k u).wait (OfSemaphore i) (stands_for k i u sound (stood u among))).0 ∙ ap (λ b. cond b 1 0) apart
 
   gone_at : (u : ℕ) → has ts u ≡ true → (object : Object) → times u (arrivals_in k.barriers (with_nth k.semaphores i sem) object) ≡ 0
   gone_at u among (OfBarrier j) = elsewhere u (OfBarrier j) among refl
@@ -350,7 +341,7 @@ served_in_hand k i u sound lives stands =
     let after = handed_to u before in
     let served = has_served u before in
     let some = times-has u (waiting (semaphore_at k i)) stands in
-    let waits = (awaited (thread_at k u).wait i (stands_for k i u sound some)).1 in
+    let waits = (awaited (thread_at k u).wait (OfSemaphore i) (stands_for k i u sound some)).1 in
     let begun = waits_lives k u sound waits in
     let gentle = gentle_but_more k k (λ v. has (u ∷ []) v) but_none (λ _ _. refl) (gentle_same k sound) in
     taken_out k (put_semaphore k i after) i after (u ∷ []) sound

@@ -1,7 +1,6 @@
 -- The directives of the task manager are fair.
-use Rattle.std.proofs.Common.{◌≡◌, ◌≢◌, ℕ, zero, suc, ◌<◌, ◌≤◌, ⊎_elim, ◌&&◌, ◌||◌, nat_lt, List, [], ◌∷◌, Bool, true, false, cond, eqb, Option, None, Some, length, arith, refl, sym, ◌∙◌, ap}
-use Rattle.std.proofs.lemmas.List.{get_or_past}
-use Rattle.std.proofs.lemmas.Bool.{cases_lt, false≢true}
+use Rattle.std.proofs.Common.{◌≡◌, ◌≢◌, ℕ, zero, suc, ◌&&◌, ◌||◌, nat_lt, List, [], ◌∷◌, Bool, true, false, cond, eqb, Option, None, Some, length, arith, refl, sym, ◌∙◌, ap}
+use Rattle.std.proofs.lemmas.Bool.{false≢true}
 use Rattle.rk_model.specs.declared.ids.Class.TheVariants.{Task}
 use Rattle.rk_model.specs.declared.scenario.Target.{Target}
 use Rattle.rk_model.specs.declared.scenario.Target.TheVariants.{Var, Own, Given}
@@ -21,6 +20,7 @@ use Rattle.rk_model.specs.Directives.Waits.{object_of_wait, is_for, leave}
 use Rattle.rk_model.specs.Directives.Objects.{put_names, live_one}
 use Rattle.rk_model.specs.Directives.Objects.{has_begun}
 use Rattle.rk_model.specs.Directives.Tasks.{task_named, dormant_in, prio_refusal, task_create, task_ident, is_dormant, with_started, task_start, with_suspended, task_suspend, task_resume, task_set_priority, without_task, has_created, task_delete, task_exit, task_wake_after}
+use Rattle.rk_parts.proofs.PutLemmas.{lives_within}
 use Rattle.rk_directives.specs.Calls.{IsActing, IsCaller}
 use Rattle.rk_directives.specs.Sound.{IsSound, IsInBounds, IsGentle, but_none, but_one, may_time_out, is_in_call}
 use Rattle.rk_model.proofs.IndexLemmas.{nth-with_other, length-with_nth, All-with_nth}
@@ -31,7 +31,7 @@ use Rattle.rk_directives.proofs.GentleChangeLemmas.{gentle_same, gentle_but, gen
 use Rattle.rk_directives.proofs.TieLemmas.{tied_but, tied_idle, left_gone}
 use Rattle.rk_directives.proofs.WaitChainLemmas.{chained_fewer, chained_idle, owners_left, joins_unowned}
 use Rattle.rk_directives.proofs.OutcomeLemmas.{IsFair, gentle_limited, stays_same, fair_refused, fair_done, fair_waiting, fair_gone, fair_found, fair_create, fair_ident, fair_if}
-use Rattle.rk_model.proofs.BooleanLemmas.{and_back, equal_test, or_front, or_back}
+use Rattle.rk_model.proofs.BooleanLemmas.{and_back, equal_test, or_front, or_back, neither_front}
 
 lives_by : (k : Plain) (v u : ℕ) (b : Bool) → has_begun (thread_at k v).life ≡ b → cond b (Some v) None ≡ Some u → has_begun (thread_at k u).life ≡ true
 lives_by k v u true e is = let same : v ≡ u = cc in ap (λ w. has_begun (thread_at k w).life) (sym same) ∙ e
@@ -138,13 +138,6 @@ pub task_set_priority_fair : (k : Plain) (t : ℕ) (id : Target) (prio : ℕ) �
 task_set_priority_fair k t id prio caller = fair_found k t (task_named k t id) _ (λ u is. fair_if k t (nat_lt 255 prio) _ _ (λ _. fair_refused k t _) (λ _. fair_if k t (eqb prio 0) _ _ (λ _. fair_done k t _ _ _ _ refl (stays_same k t caller))
     (λ _. (let lives = found_lives k t id u caller is in fair_done k t _ _ _ _ refl (stays_put k k t u (record (thread_at k u) { base = prio }) (stays_same k t caller) refl refl refl refl lives lives (bounds_at k u caller.acts.sound))))))
 
--- a task that lives is one of the threads
-pub lives_within : (threads : List Thread) (u : ℕ) → has_begun (nth no_thread threads u).life ≡ true → (0 < u) × (u ≤ length threads)
-lives_within threads zero live = absurd (false≢true live)
-lives_within threads (suc i) live =
-    ⊎_elim (λ w. let low : 0 < suc i = omega arith in let high : suc i ≤ length threads = omega (arith, w) in (low, high))
-    (λ w. absurd (false≢true (rw (get_or_past threads i no_thread w) at live))) (cases_lt i (length threads))
-
 -- who owns a semaphore is found among the owners
 obtained_one : (semaphores : List SemaphoreState) (i u : ℕ) → (nth no_semaphore semaphores i).owner ≡ Some u → has_obtained semaphores u ≡ true
 obtained_one semaphores zero u owner = let no : ⊥ = cc in absurd no
@@ -166,10 +159,6 @@ without_task_gentle k u sound live free =
     (λ i owner. absurd (false≢true (sym free ∙ obtained_one k.semaphores i u (sym (owners_left k.semaphores u awaited i) ∙ owner))))
     (named_removed k.table (objects_of (leave k u)) u left.named sound.places live)
     (none_bounds k.scenario (length k.clusters) k.present sound.some_cluster)
-
-neither_front : (a b : Bool) → (a || b) ≡ false → a ≡ false
-neither_front true b e = e
-neither_front false b e = refl
 
 pub task_delete_fair : (k : Plain) (t : ℕ) (id : Target) → IsCaller k t → IsFair k t (task_delete k t id)
 task_delete_fair k t id caller = fair_found k t (task_named k t id) _ (λ u is. fair_if k t (has_obtained k.semaphores u || has_created k.periods u) _ _ (λ _. fair_refused k t _) (λ free.

@@ -39,6 +39,9 @@ perform_narrow-requires-clause-unarmed c = caller_unarmed c.args.all.now c.args.
 pub perform_narrow-requires-clause-free : goal.perform_narrow-requires-clause-free
 perform_narrow-requires-clause-free c = c.requires.acts.waits_not
 
+pub perform_narrow-requires-clause-held : goal.perform_narrow-requires-clause-held
+perform_narrow-requires-clause-held c = c.requires.whole.held
+
 pub perform_narrow-requires-clause-queue : goal.perform_narrow-requires-clause-queue
 perform_narrow-requires-clause-queue c = λ object _ t. c.requires.acts.sound.tied.queued t refl object
 

@@ -34,4 +34,5 @@ returns-in-Ok c = λ s.
     (c.done.ensures ∙ ap (λ bits. Done Successful bits None) c.of.ensures)
     (λ groups lies. replaces.state s c.create.new.table groups lies)
     (λ lies. replaces.laid s.clusters lies (λ h. home_known s.clusters old c.args.caller lies c.requires.lives))
-    replaces.kept)
+    replaces.kept
+    replaces.held)

@@ -24,6 +24,7 @@ loop-wake-preserved c =
           ∙ ap (woken (joined s table old groups)) (sym left)
           ∙ c.loop-wake.invariant.state s table groups laid;
       kept = (c.stop_wait.ensures.state no_scenario).kept ∙ c.loop-wake.invariant.kept;
+      held = (c.stop_wait.ensures.state no_scenario).held ∙ c.loop-wake.invariant.held;
     }
 
 pub returns : goal.returns
@@ -32,4 +33,5 @@ returns c = λ s.
     record {
       state = λ table groups laid. (ap (woken (joined s table c.loop-wake.clusters groups)) (sym none) ∙ c.loop-wake.invariant.state s table groups laid);
       kept = c.loop-wake.invariant.kept;
+      held = c.loop-wake.invariant.held;
     }

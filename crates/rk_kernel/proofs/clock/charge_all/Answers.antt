@@ -70,6 +70,7 @@ loop-cpu-preserved c =
           (w.charged-next.ensures ∙ ap (charged all.scenario) w.thread_of.ensures)
           (puts_state all.scenario all.table.names all.groups all.clusters w.renew.new.clusters w.in-Runs.thread w.charged-next.result w.renew.ensures.puts)
           w.renew.ensures.puts.kept
+          w.renew.ensures.puts.held
           (w.renew.ensures.noted _ c.loop-cpu.invariant.noted)
           refl)
       | in_default w ↦ rw w.all-is (none_more_charged k p all old c.view_on.result c.loop-cpu.invariant does (λ u is. w.in_default.not-Runs u is))

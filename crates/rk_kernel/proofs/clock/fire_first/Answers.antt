@@ -22,7 +22,7 @@ returns-in-None c =
     let taken = c.in-None.ensures.taken.state all.scenario all.table.names all.groups c.requires.cluster in
     record {
       fires = fires_none k _ c.args.cluster _ first taken refl;
-      ready = ready_same all c.take_due_of.new.clusters c.requires.ready (unchanged k _ c.args.cluster first taken) c.in-None.ensures.taken.kept;
+      ready = ready_same all c.take_due_of.new.clusters c.requires.ready (unchanged k _ c.args.cluster first taken) c.in-None.ensures.taken.kept c.in-None.ensures.taken.held;
       scenario = refl;
     }
 

@@ -14,7 +14,7 @@ pass_tick-requires c =
     let present = ap (λ (n : Plain). n.present) c.charge_all.ensures.charged in
     let sound = c.requires.ready.sound in
     record {
-      whole = whole_kept c.args.all.now c.charge_all.new.all c.requires.ready.whole present c.charge_all.ensures.kept c.charge_all.ensures.rest;
+      whole = whole_kept c.args.all.now c.charge_all.new.all c.requires.ready.whole present c.charge_all.ensures.kept c.charge_all.ensures.held (ap (λ (n : Plain). n.semaphores) c.charge_all.ensures.charged) c.charge_all.ensures.rest;
       below = omega (arith, present, sound.present, sound.horizon);
     }
 

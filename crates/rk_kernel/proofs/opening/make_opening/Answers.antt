@@ -17,6 +17,7 @@ returns c =
       started = c.start_all.ensures.started;
       laid = c.start_all.ensures.laid;
       kept = c.start_all.ensures.kept;
+      held = c.start_all.ensures.held;
       named = c.name_all.ensures ∙ ap (λ (inits : List Init). (let table : Table = record no_objects { tasks = begun_names inits } in table)) c.as_slice.ensures;
     } in
     let is = opened s all c.start_all.new.clusters c.settle_parts.new.clusters c.name_all.new.table c.requires stand begin c.settle_parts.ensures in

@@ -2,6 +2,7 @@ use Rattle.std.proofs.Common.{◌≡◌, List, take, map}
 use Rattle.rk_model.specs.Names.{Table}
 use Rattle.rk_model.specs.Histories.{begun, places}
 use Rattle.rk_parts.specs.declared.parts.GroupPart.{GroupPart}
+use Rattle.rk_parts.specs.Holdings.{holdings}
 use Rattle.rk_parts.specs.Joined.{joined}
 use Rattle.rk_parts.specs.Lent.{layouts, stored, AreLaid}
 use Rattle.rk_kernel.proofs.opening.start_all.Given as goal
@@ -11,4 +12,5 @@ invariant-loop-at l = record {
   started : (table : Table) (groups : List GroupPart) → joined l.scenario table l.clusters groups ≡ record (joined l.scenario table l.fn.clusters groups) { threads = places 64 (map (begun l.scenario) (take l.at l.scenario.inits)) };
   laid : AreLaid l.scenario.clusters (layouts l.clusters);
   kept : stored l.clusters ≡ stored l.fn.clusters;
+  held : holdings l.clusters ≡ holdings l.fn.clusters;
 }

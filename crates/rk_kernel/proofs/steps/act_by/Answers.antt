@@ -1,4 +1,4 @@
-use Rattle.std.proofs.Common.{◌≡◌, rules, Option, ℕ, ap, sym, ◌∙◌, subst}
+use Rattle.std.proofs.Common.{◌≡◌, rules, Option, refl, ℕ, ap, sym, ◌∙◌, subst}
 use Rattle.std.specs.Option.{option_to_list}
 use Rattle.rk_model.specs.declared.entry.Answer.{Answer}
 use Rattle.rk_model.specs.declared.scenario.Scenario.{Scenario}
@@ -10,6 +10,7 @@ use Rattle.rk_parts.specs.Joined.{plain_of}
 use Rattle.rk_parts.specs.Lent.{Frame, AreLaid, layouts}
 use Rattle.rk_directives.specs.Does.{Untouched}
 use Rattle.rk_kernel.proofs.CallerLemmas.{acting_of}
+use Rattle.rk_directives.proofs.KeptHoldingLemmas.{still_held}
 use Rattle.rk_directives.proofs.DirectiveLemmas.LentLemmas.{laid_kept}
 use Rattle.rk_directives.proofs.DirectiveLemmas.ActionLemmas.{action_done, line_after, bodies_after, lives_after, followed}
 use Rattle.rk_kernel.proofs.PartsSettledLemmas.{IsChanged, settled}
@@ -48,6 +49,7 @@ returns c =
       state = is;
       laid = laid_kept all.scenario.clusters done.clusters mid.clusters ends.kept c.action-answer.ensures.laid;
       kept = ap (λ (f : Frame). f.stored) ends.kept ∙ c.action-answer.ensures.kept;
+      held = still_held done.clusters mid.clusters done.groups done.groups ends.held (λ i. refl) c.action-answer.ensures.held;
       rest = c.action-answer.ensures.rest;
     } in
     let last = c.last_of-last.ensures ∙ ap (λ (a : Answer). last_of a) c.action-answer.ensures.told in
