@@ -15,10 +15,11 @@ use Rattle.rk_model.specs.Directives.Waits.{object_of_wait}
 use Rattle.rk_model.specs.Scheduling.Chains.{owner_awaited, waits_on}
 use Rattle.rk_model.proofs.IndexLemmas.{nth-with_kept, nth-with_other}
 use Rattle.rk_parts.specs.declared.parts.ClusterPart.{ClusterPart}
-use Rattle.rk_parts.specs.declared.parts.GroupPart.{GroupPart}
-use Rattle.rk_parts.specs.Groups.{Leaves, PutsSemaphore}
+use Rattle.rk_groups.specs.declared.group.GroupPart.{GroupPart}
+use Rattle.rk_groups.specs.Groups.{Leaves, PutsSemaphore}
 use Rattle.rk_parts.specs.Holdings.{AreHeld, holder, holdings}
-use Rattle.rk_parts.specs.Joined.{clusters_of, semaphores_of, semaphore_lent, thread_lent, threads_of}
+use Rattle.rk_groups.specs.GroupObjects.{semaphores_of, semaphore_lent}
+use Rattle.rk_parts.specs.Joined.{clusters_of, thread_lent, threads_of}
 use Rattle.rk_parts.specs.Lent.{AreLaid, Frame, NotesOwner}
 use Rattle.rk_parts.proofs.HoldingLemmas.{held_kept}
 use Rattle.rk_parts.proofs.PutLemmas.{clusters_joined}

@@ -19,14 +19,15 @@ use Rattle.rk_model.specs.Directives.Objects.{has_begun, create}
 use Rattle.rk_model.specs.Directives.Waits.{Object, object_of_wait, is_for, arrivals_in, stop_wait}
 use Rattle.rk_model.specs.Directives.Outcomes.{Outcome, Refused, done, answer_of, changed}
 use Rattle.rk_parts.specs.declared.parts.ClusterPart.{ClusterPart}
-use Rattle.rk_parts.specs.declared.parts.GroupPart.{GroupPart}
+use Rattle.rk_groups.specs.declared.group.GroupPart.{GroupPart}
 use Rattle.rk_parts.specs.declared.parts.AllParts.{AllParts}
 use Rattle.rk_model.specs.declared.limits.TheConstants.{MOST_OBJECTS}
 use Rattle.rk_model.specs.Directives.Periods.{end_of}
 use Rattle.rk_model.specs.Scheduling.Timers.{times_armed}
 use Rattle.rk_period.specs.Periods.{Fits, waits_for}
-use Rattle.rk_parts.specs.Joined.{no_scenario, joined, plain_of, present_of, threads_of, semaphores_of, barriers_of, thread_lent, semaphore_lent, period_lent, timers_lent}
-use Rattle.rk_parts.specs.Groups.{GroupFrame, group_frames}
+use Rattle.rk_groups.specs.GroupObjects.{semaphores_of, barriers_of, semaphore_lent, period_lent}
+use Rattle.rk_parts.specs.Joined.{no_scenario, joined, plain_of, present_of, threads_of, thread_lent, timers_lent}
+use Rattle.rk_groups.specs.Groups.{GroupFrame, group_frames}
 use Rattle.rk_parts.specs.Holdings.{AreHeld, holder, holdings}
 use Rattle.rk_parts.specs.Lent.{AreLaid, layouts, stored, frame}
 

@@ -21,7 +21,8 @@ ghost use Rattle.rk_model.specs.Directives.Waits.{Object};
 ghost use Rattle.rk_directives.specs.Does.{Does, DoesAll, DoesBoth, IsQueueOf, MayCall, lent_both};
 ghost use Rattle.rk_directives.specs.Calls.{IsActing, period_called, queue_named};
 ghost use Rattle.rk_parts.specs.Holdings.{AreHeld, holdings};
-ghost use Rattle.rk_parts.specs.Joined.{plain_of, semaphores_of, thread_lent, timers_lent};
+ghost use Rattle.rk_groups.specs.GroupObjects.{semaphores_of};
+ghost use Rattle.rk_parts.specs.Joined.{plain_of, thread_lent, timers_lent};
 ghost use Rattle.rk_parts.specs.Whole.{AreWhole};
 
 use crate::barriers::{
@@ -40,9 +41,10 @@ use crate::tasks::{
     task_create, task_delete, task_exit, task_ident, task_resume, task_set_priority, task_start,
     task_suspend, task_wake_after,
 };
+use rk_groups::group::GroupPart;
 use rk_model::{Answer, Name, Op, Reply, Scenario, SemSpec, Target, Thread, ThreadIx};
 use rk_parts::lent::{renew, thread_of};
-use rk_parts::parts::{AllParts, ClusterPart, GroupPart};
+use rk_parts::parts::{AllParts, ClusterPart};
 
 /// Lets the caller return from a directive that waited.
 fn back(clusters: &mut [ClusterPart], caller: ThreadIx, reply: Reply) -> Answer

@@ -12,16 +12,18 @@ ghost use Rattle.rk_model.specs.Directives.Waits.{OfBarrier};
 ghost use Rattle.rk_model.specs.Scheduling.Timers.{times_armed};
 ghost use Rattle.rk_model.specs.State.{Plain};
 ghost use Rattle.rk_directives.specs.Does.{BecomesBoth, BecomesEvery, DoesBoth, DoesEvery, DoesGroups, IsQueueOf, Tells, lent_both, with_table};
-ghost use Rattle.rk_parts.specs.Groups.{is_lent};
-ghost use Rattle.rk_parts.specs.Joined.{barrier_lent, thread_lent, timers_lent};
+ghost use Rattle.rk_groups.specs.Groups.{is_lent};
+ghost use Rattle.rk_groups.specs.GroupObjects.{barrier_lent};
+ghost use Rattle.rk_parts.specs.Joined.{thread_lent, timers_lent};
 ghost use Rattle.rk_parts.specs.NamesAgree.{IsNamed};
 
 use crate::objects::{bits_of, create, ident, remove};
 use crate::outcomes::done;
 use crate::waits::{caller_of, start_limited, wake_all};
+use rk_groups::barriers::{self, is_live, wakes_of};
+use rk_groups::group::GroupPart;
 use rk_model::{Answer, Class, Id, Name, Status, Target, ThreadIx, Wait};
-use rk_parts::groups::{self, is_live, wakes_of};
-use rk_parts::parts::{ClusterPart, GroupPart};
+use rk_parts::parts::ClusterPart;
 use rk_parts::table::Table;
 
 /// The index of the barrier that a caller asks for; `None` exactly where the id is unknown.
@@ -73,7 +75,7 @@ pub(crate) fn barrier_create(
     match create(names, Class::Barrier, name, most_refusal(automatic, most)) {
         Err(status) => Answer::Refused(status),
         Ok(index) => {
-            groups::create(groups, index, automatic, most);
+            barriers::create(groups, index, automatic, most);
             done(Id::of(Class::Barrier, index).bits)
         }
     }
@@ -107,7 +109,7 @@ pub(crate) fn barrier_wait(
         None => Answer::Refused(Status::InvalidId),
         Some(index) => {
             let by = caller_of(clusters, caller);
-            if let Status::Waits = groups::wait(groups, index, by).status {
+            if let Status::Waits = barriers::wait(groups, index, by).status {
                 start_limited(clusters, caller, Wait::AtBarrier(index), ticks);
                 Answer::Waiting
             } else {
@@ -127,7 +129,7 @@ fn release_all(clusters: &mut [ClusterPart], groups: &mut [GroupPart], index: u1
     ensures state { (s : ScenarioView) → BecomesBoth s (λ k. end_at k index Successful) clusters.old groups.old clusters.new groups.new }
     ensures count { result ≡ length (barrier_lent groups.old index).arrivals }
 {
-    let reply = groups::release(groups, index);
+    let reply = barriers::release(groups, index);
     wake_all(clusters, wakes_of(groups, index));
     reply.out
 }
@@ -163,7 +165,7 @@ fn without_barrier(
     requires named { IsNamed names.old.barriers (λ i. (barrier_lent groups.old i).live) }
     ensures { (s : ScenarioView) → BecomesEvery s (λ k. without_barrier k index) clusters.old groups.old names.old clusters.new groups.new names.new }
 {
-    groups::remove(groups, index);
+    barriers::remove(groups, index);
     wake_all(clusters, wakes_of(groups, index));
     remove(names, Class::Barrier, index);
 }

@@ -7,9 +7,10 @@ ghost use Rattle.rk_model.specs.Directives.Semaphores.{reaches_from};
 ghost use Rattle.rk_model.specs.Scheduling.Chains.{reaches};
 ghost use Rattle.rk_directives.specs.Does.{lent_both};
 ghost use Rattle.rk_directives.specs.HeldChains.{waits_on_holder};
-ghost use Rattle.rk_parts.specs.declared.parts.GroupPart.{GroupPart as GroupView};
+ghost use Rattle.rk_groups.specs.declared.group.GroupPart.{GroupPart as GroupView};
 ghost use Rattle.rk_parts.specs.Holdings.{AreHeld, holdings};
-ghost use Rattle.rk_parts.specs.Joined.{semaphores_of, threads_of};
+ghost use Rattle.rk_groups.specs.GroupObjects.{semaphores_of};
+ghost use Rattle.rk_parts.specs.Joined.{threads_of};
 
 use rk_model::limits::MOST_OBJECTS;
 use rk_model::{ThreadIx, Wait};

@@ -13,9 +13,10 @@ ghost use Rattle.rk_parts.specs.Lent.{Puts};
 use crate::outcomes::done;
 use crate::tasks::task_named;
 use crate::waits::{end_wait, start_limited};
+use rk_groups::group::GroupPart;
 use rk_model::{Answer, Reply, Status, Target, Thread, ThreadIx, Wait, Wish};
 use rk_parts::lent::{put, thread_of};
-use rk_parts::parts::{ClusterPart, GroupPart};
+use rk_parts::parts::ClusterPart;
 use rk_signal::receive;
 
 /// Says which events a task has pending.

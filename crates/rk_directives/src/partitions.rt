@@ -9,16 +9,17 @@ ghost use Rattle.rk_model.specs.Directives.Partitions.{given_back_to, partition_
 ghost use Rattle.rk_model.specs.State.{Plain, partition_at};
 ghost use Rattle.rk_directives.specs.Does.{DoesBoth, DoesEvery, DoesGroups, Tells, lent_both, with_table};
 ghost use Rattle.rk_parts.specs.declared.parts.ClusterPart.{ClusterPart as ClusterView};
-ghost use Rattle.rk_parts.specs.Groups.{holds_partitions};
-ghost use Rattle.rk_parts.specs.Joined.{partition_lent};
+ghost use Rattle.rk_groups.specs.Groups.{holds_partitions};
+ghost use Rattle.rk_groups.specs.GroupObjects.{partition_lent};
 ghost use Rattle.rk_parts.specs.NamesAgree.{IsNamed};
 
 use crate::objects::{bits_of, create, ident, remove};
 use crate::outcomes::{answered, done};
+use rk_groups::group::GroupPart;
+use rk_groups::partitions::{self, is_live};
 use rk_model::{Answer, Class, Id, Name, Status, Target, ThreadIx};
 use rk_partition::refusal;
-use rk_parts::partitions::{self, is_live};
-use rk_parts::parts::{ClusterPart, GroupPart};
+use rk_parts::parts::ClusterPart;
 use rk_parts::table::Table;
 
 /// The index of the partition that a caller asks for; `None` exactly where the id is unknown.

@@ -15,23 +15,25 @@ ghost use Rattle.rk_model.specs.Scheduling.Timers.{times_armed};
 ghost use Rattle.rk_model.specs.State.{Plain, semaphore_at};
 ghost use Rattle.rk_directives.specs.Does.{BecomesBoth, BecomesEvery, DoesBoth, DoesEvery, IsQueueOf, Notes, Tells, lent_both, with_table};
 ghost use Rattle.rk_directives.specs.Calls.{deleted_at, ticks_of};
-ghost use Rattle.rk_parts.specs.declared.parts.GroupPart.{GroupPart as GroupView};
-ghost use Rattle.rk_parts.specs.Groups.{PutsSemaphore, holds_semaphores};
+ghost use Rattle.rk_groups.specs.declared.group.GroupPart.{GroupPart as GroupView};
+ghost use Rattle.rk_groups.specs.Groups.{PutsSemaphore, holds_semaphores};
 ghost use Rattle.rk_parts.specs.Holdings.{AreHeld, holdings};
-ghost use Rattle.rk_parts.specs.Joined.{lent, semaphore_lent, semaphores_of, thread_lent, timers_lent};
+ghost use Rattle.rk_groups.specs.GroupObjects.{semaphore_lent, semaphores_of};
+ghost use Rattle.rk_parts.specs.Joined.{lent, thread_lent, timers_lent};
 ghost use Rattle.rk_parts.specs.NamesAgree.{IsNamed};
 
 use crate::chains::reaches_from;
 use crate::objects::{bits_of, create, ident, remove};
 use crate::outcomes::{answered, done};
 use crate::waits::{caller_of, start_limited, wake_all};
+use rk_groups::group::GroupPart;
+use rk_groups::semaphores::{self, is_live, owner, waiter, wakes_of};
 use rk_model::limits::MOST_OBJECTS;
 use rk_model::{
     Answer, Caller, Class, Id, Name, Order, Protocol, SemSpec, Status, Target, ThreadIx, Wait, Wish,
 };
 use rk_parts::holdings::note_owner;
-use rk_parts::parts::{ClusterPart, GroupPart};
-use rk_parts::semaphores::{self, is_live, owner, waiter, wakes_of};
+use rk_parts::parts::ClusterPart;
 use rk_parts::standing::prio_at_home;
 use rk_parts::table::Table;
 use rk_sem::SemStore;

@@ -13,23 +13,25 @@ ghost use Rattle.rk_model.specs.Directives.Outcomes.{arrived};
 ghost use Rattle.rk_model.specs.Limits.{AreRunnable};
 ghost use Rattle.rk_model.specs.Scheduling.Timers.{times_armed};
 ghost use Rattle.rk_directives.specs.Does.{BecomesEvery, Does, DoesEvery, DoesWide, Tells, with_table};
-ghost use Rattle.rk_parts.specs.Joined.{lent, periods_of, semaphores_of, thread_lent, timers_lent};
+ghost use Rattle.rk_groups.specs.GroupObjects.{periods_of, semaphores_of};
+ghost use Rattle.rk_parts.specs.Joined.{lent, thread_lent, timers_lent};
 ghost use Rattle.rk_parts.specs.Lent.{number_in, Puts};
 ghost use Rattle.rk_parts.specs.NamesAgree.{IsNamed};
 
 use crate::objects::{create, ident, remove};
 use crate::outcomes::{done, value_in};
 use crate::waits::start_limited;
+use rk_groups::group::GroupPart;
+use rk_groups::periods::has_created;
+use rk_groups::queues::leave;
+use rk_groups::semaphores::has_obtained;
 use rk_model::limits::LEAST_URGENT;
 use rk_model::{
     Answer, Armer, Class, Id, Life, Name, Prio, Scenario, Status, Target, Thread, ThreadIx, Wait,
 };
 use rk_parts::arrival::arrive;
-use rk_parts::groups::leave;
 use rk_parts::lent::{make, put, remove as remove_thread, thread_of};
-use rk_parts::parts::{ClusterPart, GroupPart};
-use rk_parts::periods::has_created;
-use rk_parts::semaphores::has_obtained;
+use rk_parts::parts::ClusterPart;
 use rk_parts::standing::prio_at_home;
 use rk_parts::table::Table;
 use rk_parts::timers::cancel;

@@ -11,10 +11,11 @@ ghost use Rattle.rk_directives.specs.Does.{AllLive, Becomes, BecomesBoth, woken}
 ghost use Rattle.rk_parts.specs.Joined.{lent, thread_lent, timers_lent};
 ghost use Rattle.rk_parts.specs.Lent.{Puts};
 
+use rk_groups::group::GroupPart;
+use rk_groups::queues::leave;
 use rk_model::{Armer, Caller, Reply, Thread, ThreadIx, Wait, Wake};
-use rk_parts::groups::leave;
 use rk_parts::lent::{put, thread_of};
-use rk_parts::parts::{ClusterPart, GroupPart};
+use rk_parts::parts::ClusterPart;
 use rk_parts::standing::prio_at_home;
 use rk_parts::ticks::present;
 use rk_parts::timers::{arm, cancel};

@@ -7,7 +7,7 @@ use Rattle.rk_model.specs.Scheduling.Settling.{settle}
 use Rattle.rk_model.specs.Histories.{begun, places, vacant, begun_names, started, opening}
 use Rattle.rk_model.specs.Limits.{IsWithinLimits}
 use Rattle.rk_parts.specs.declared.parts.ClusterPart.{ClusterPart}
-use Rattle.rk_parts.specs.declared.parts.GroupPart.{GroupPart}
+use Rattle.rk_groups.specs.declared.group.GroupPart.{GroupPart}
 use Rattle.rk_parts.specs.declared.parts.AllParts.{AllParts}
 use Rattle.rk_parts.specs.Holdings.{holdings}
 use Rattle.rk_parts.specs.Joined.{joined, plain_of}

@@ -22,7 +22,7 @@ use Rattle.rk_model.specs.Histories.{begun, places, free_cluster, vacant, starte
 use Rattle.rk_model.specs.Text.Scenarios.{cpus_in}
 use Rattle.rk_model.specs.Limits.{IsWithinLimits}
 use Rattle.rk_parts.specs.declared.parts.ClusterPart.{ClusterPart}
-use Rattle.rk_parts.specs.declared.parts.GroupPart.{GroupPart}
+use Rattle.rk_groups.specs.declared.group.GroupPart.{GroupPart}
 use Rattle.rk_parts.specs.Joined.{joined, thread_lent}
 use Rattle.rk_kernel.proofs.InitNamesLemmas.{none_locks, none_stands, none_timed, named_vacant, named_begun}
 use Rattle.rk_directives.proofs.ThreadBoundsLemmas.{none_bounds, arrived_bounds}

@@ -9,11 +9,12 @@ use Rattle.rk_parts.specs.declared.parts.ClusterPart.{ClusterPart}
 use Rattle.rk_parts.specs.declared.parts.AllParts.{AllParts}
 use Rattle.rk_parts.specs.declared.processors.Calling.{Calling}
 use Rattle.rk_parts.specs.Holdings.{AreHeld, holdings}
-use Rattle.rk_parts.specs.Joined.{present_of, plain_of, semaphores_of}
+use Rattle.rk_groups.specs.GroupObjects.{semaphores_of}
+use Rattle.rk_parts.specs.Joined.{present_of, plain_of}
 use Rattle.rk_parts.specs.Lent.{number_in, AreLaid, layouts, Stored, stored_in, stored, Frame, frame}
 use Rattle.rk_parts.specs.Noted.{settled_part, bare}
 use Rattle.rk_parts.specs.Whole.{AreWhole, ticks_of}
-use Rattle.rk_parts.specs.Groups.{group_frames}
+use Rattle.rk_groups.specs.Groups.{group_frames}
 use Rattle.rk_model.specs.Scheduling.Running.{cpu_count, caller}
 use Rattle.rk_model.specs.Text.Scenarios.{cpus_in}
 use Rattle.rk_parts.proofs.LentSeatLemmas.{cpu_count_joined}

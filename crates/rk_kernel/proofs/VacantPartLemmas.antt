@@ -14,16 +14,17 @@ use Rattle.rk_model.specs.Text.Scenarios.{cpus_in}
 use Rattle.rk_model.specs.Names.{no_objects}
 use Rattle.rk_parts.specs.declared.parts.ClusterPart.{ClusterPart}
 use Rattle.rk_parts.specs.declared.parts.AllParts.{AllParts}
-use Rattle.rk_parts.specs.declared.parts.GroupPart.{GroupPart}
+use Rattle.rk_groups.specs.declared.group.GroupPart.{GroupPart}
 use Rattle.rk_parts.specs.Threads.{own_standing}
 use Rattle.rk_places.specs.Stores.{none_live, group_of, stored_at}
 use Rattle.rk_signal.specs.Barriers.{no_stored}
-use Rattle.rk_parts.specs.Joined.{listed, cluster_of, placed_in, lives_in, held, numbered, present_of, threads_of, semaphore_group, semaphore_held, semaphores_of, barrier_of, barrier_group, barrier_held, barriers_of, partition_group, partition_held, partitions_of, period_group, period_held, periods_of, clusters_of, clusters_by, plain_of}
+use Rattle.rk_groups.specs.GroupObjects.{listed, semaphore_group, semaphore_held, semaphores_of, barrier_of, barrier_group, barrier_held, barriers_of, partition_group, partition_held, partitions_of, period_group, period_held, periods_of}
+use Rattle.rk_parts.specs.Joined.{cluster_of, placed_in, lives_in, held, numbered, present_of, threads_of, clusters_of, clusters_by, plain_of}
 use Rattle.rk_parts.specs.Lent.{AreLaid, layouts, stored}
 use Rattle.rk_parts.specs.Noted.{no_part, part_at, standings_in, key_of, IsKeyed, AreNoted, bare}
 use Rattle.rk_parts.specs.Holdings.{AreHeld, first_one, holder, holdings, no_holdings}
 use Rattle.rk_parts.specs.Whole.{ticks_of, ticks_in, AreWhole}
-use Rattle.rk_parts.proofs.ListedLemmas.{length-listed, get_or-listed}
+use Rattle.rk_groups.proofs.ListedLemmas.{length-listed, get_or-listed}
 use Rattle.rk_parts.proofs.MappedPartLemmas.{mapped_kept}
 use Rattle.rk_parts.proofs.HeldLemmas.{held_nowhere, lives_nowhere, no_part_lives}
 use Rattle.rk_parts.proofs.LayoutLemmas.{Lie, laid}

@@ -9,7 +9,7 @@ use Rattle.rk_model.specs.Histories.{free_cluster}
 use Rattle.rk_model.specs.Directives.Objects.{has_begun}
 use Rattle.rk_model.specs.Directives.Outcomes.{Outcome, answer_of, changed}
 use Rattle.rk_model.specs.Directives.Tasks.{task_named, task_suspend}
-use Rattle.rk_parts.specs.Joined.{listed}
+use Rattle.rk_groups.specs.GroupObjects.{listed}
 
 -- a thread that lives in a cluster, and no thread elsewhere
 abbrev pub cut_thread : ℕ → Thread → Thread

@@ -5,7 +5,7 @@ use Rattle.rk_model.specs.State.{no_semaphore, no_partition, no_period}
 use Rattle.rk_model.specs.Text.Scenarios.{cpus_in}
 use Rattle.rk_cluster.specs.Clusters.{empty_cluster}
 use Rattle.rk_parts.specs.declared.parts.ClusterPart.{ClusterPart}
-use Rattle.rk_parts.specs.declared.parts.GroupPart.{GroupPart}
+use Rattle.rk_groups.specs.declared.group.GroupPart.{GroupPart}
 use Rattle.rk_parts.specs.Holdings.{no_holdings}
 use Rattle.rk_places.specs.Stores.{none_live}
 use Rattle.rk_signal.specs.Barriers.{no_stored}

@@ -1,5 +1,5 @@
 -- The threads that lent parts hold, and the parts in which they are found.
-use Rattle.std.proofs.Common.{◌≡◌, ℕ, zero, suc, ◌+◌, ◌<◌, List, [], ◌∷◌, Bool, true, false, cond, Option, Some, None, length, arith, refl, sym, ap, ◌∙◌, set}
+use Rattle.std.proofs.Common.{◌≡◌, ℕ, zero, suc, ◌<◌, List, [], ◌∷◌, true, false, Option, Some, None, length, arith, refl, sym, ap, ◌∙◌, set}
 use Rattle.std.specs.Bool.{if◌then◌else◌}
 use Rattle.std.proofs.lemmas.Bool.{false≢true}
 use Rattle.rk_model.specs.declared.state.Thread.{Thread}
@@ -7,38 +7,10 @@ use Rattle.rk_model.specs.Lists.{nth}
 use Rattle.rk_model.specs.State.{no_thread}
 use Rattle.rk_model.specs.Directives.Objects.{has_begun}
 use Rattle.rk_parts.specs.declared.parts.ClusterPart.{ClusterPart}
+use Rattle.rk_groups.proofs.FoundLemmas.{found_here, found_later, found_nowhere}
 use Rattle.rk_parts.specs.Joined.{placed_in, lives_in, held}
-use Rattle.rk_parts.specs.Lent.{found_in, one_more}
+use Rattle.rk_parts.specs.Lent.{found_in}
 use Rattle.rk_parts.specs.Noted.{part_at}
-
--- a place found behind n others
-abbrev pub behind : ℕ → Option ℕ → Option ℕ
-behind n None = None
-behind n (Some m) = Some (n + m)
-
--- where the first of a list is found, and where one behind it
-pub found_here : (b : Bool) (rest : Option ℕ) → cond b (Some 0) (one_more rest) ≡ Some 0 → b ≡ true
-found_here true rest h = refl
-found_here false None h = absurd (cc)
-found_here false (Some n) h = absurd (grind (arith, h))
-
-pub record FoundLater (b : Bool) (rest : Option ℕ) (at : ℕ) : Type 0 where
-  pub here_not : b ≡ false
-  pub there : rest ≡ Some at
-
-pub found_later : (b : Bool) (rest : Option ℕ) (at : ℕ) → cond b (Some 0) (one_more rest) ≡ Some (suc at) → FoundLater b rest at
-found_later true rest at h = absurd (grind (arith, h))
-found_later false None at h = absurd (cc)
-found_later false (Some n) at h = record { here_not = refl; there = grind (arith, h) }
-
-pub record FoundNowhere (b : Bool) (rest : Option ℕ) : Type 0 where
-  pub here_not : b ≡ false
-  pub there_not : rest ≡ None
-
-pub found_nowhere : (b : Bool) (rest : Option ℕ) → cond b (Some 0) (one_more rest) ≡ None → FoundNowhere b rest
-found_nowhere true rest h = absurd (cc)
-found_nowhere false None h = record { here_not = refl; there_not = refl }
-found_nowhere false (Some n) h = absurd (cc)
 
 -- the thread that is held is that of the part in which it is found
 pub held_found : (parts : List ClusterPart) (at t : ℕ) → found_in parts t ≡ Some at → held parts t ≡ placed_in (part_at parts at) t

@@ -14,7 +14,8 @@ use Rattle.rk_parts.specs.Holdings.{first_one, holder, holdings, own, with_owner
 use Rattle.rk_parts.specs.Joined.{lives_in, present_of, threads_of, thread_lent}
 use Rattle.rk_parts.specs.Lent.{found_in, layout, stored_in, NotesOwner}
 use Rattle.rk_parts.specs.Noted.{settled_part, bare}
-use Rattle.rk_parts.proofs.HeldLemmas.{found_here, found_later, lives_found}
+use Rattle.rk_groups.proofs.FoundLemmas.{found_here, found_later}
+use Rattle.rk_parts.proofs.HeldLemmas.{lives_found}
 use Rattle.rk_parts.proofs.MappedPartLemmas.{mapped_kept, LeavesThreads, threads_mapped, clusters_mapped, found_mapped}
 use Rattle.rk_parts.proofs.PutLemmas.{thread_held, length_threads, lives_within}
 

@@ -11,8 +11,9 @@ use Rattle.rk_model.specs.Scheduling.Running.{all_cpus, cpu_count, cpu_at}
 use Rattle.rk_model.specs.Text.Scenarios.{cpus_in}
 use Rattle.rk_model.proofs.BooleanLemmas.{same_number}
 use Rattle.rk_parts.specs.declared.parts.ClusterPart.{ClusterPart}
-use Rattle.rk_parts.specs.declared.parts.GroupPart.{GroupPart}
-use Rattle.rk_parts.specs.Joined.{listed, cluster_of, numbered, clusters_by, joined}
+use Rattle.rk_groups.specs.declared.group.GroupPart.{GroupPart}
+use Rattle.rk_groups.specs.GroupObjects.{listed}
+use Rattle.rk_parts.specs.Joined.{cluster_of, numbered, clusters_by, joined}
 use Rattle.rk_parts.specs.Lent.{layouts, AreLaid}
 use Rattle.rk_parts.specs.Noted.{part_at}
 use Rattle.rk_parts.specs.Seats.{is_seat, seat_in}

@@ -12,13 +12,14 @@ use Rattle.rk_model.specs.State.{ClusterState, no_thread, no_cluster, cluster_at
 use Rattle.rk_model.specs.Directives.Objects.{has_begun}
 use Rattle.rk_model.specs.Scheduling.Timers.{without_due}
 use Rattle.rk_parts.specs.declared.parts.ClusterPart.{ClusterPart}
-use Rattle.rk_parts.specs.declared.parts.GroupPart.{GroupPart}
+use Rattle.rk_groups.specs.declared.group.GroupPart.{GroupPart}
 use Rattle.rk_parts.specs.Joined.{cluster_of, lives_in, held, numbered, present_of, threads_of, clusters_of, clusters_by, joined, thread_lent, timers_lent}
 use Rattle.rk_parts.specs.Lent.{found_in, number_in, AreLaid, frame, layouts, PutsTimers, TakesDue, with_timers}
 use Rattle.rk_parts.specs.Threads.{Threads}
 use Rattle.rk_parts.specs.Noted.{part_at}
-use Rattle.rk_parts.proofs.ListedLemmas.{get_or-listed, same_listed, set-listed}
-use Rattle.rk_parts.proofs.HeldLemmas.{found_here, found_later, found_nowhere, held_else, held_found, found_lives, found_within, lives_found}
+use Rattle.rk_groups.proofs.ListedLemmas.{get_or-listed, same_listed, set-listed}
+use Rattle.rk_groups.proofs.FoundLemmas.{found_here, found_later, found_nowhere}
+use Rattle.rk_parts.proofs.HeldLemmas.{held_else, held_found, found_lives, found_within, lives_found}
 use Rattle.rk_parts.proofs.LayoutLemmas.{Lie, lie, layouts_same, stored_same, holdings_same}
 use Rattle.rk_parts.proofs.PutLemmas.{clusters_joined, present_same, part_is, thread_held}
 use Rattle.rk_parts.proofs.ReplaceLemmas.{number_is, number_within}

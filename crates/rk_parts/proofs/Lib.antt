@@ -1,15 +1,8 @@
-pub mod ListedLemmas
 pub mod HeldLemmas
 pub mod LayoutLemmas
 pub mod LentSeatLemmas
 pub mod LeastProcessorLemmas
 pub mod PutLemmas
-pub mod FoundGroupLemmas
-pub mod GroupStoreLemmas
-pub mod GroupLemmas
-pub mod PartitionGroupLemmas
-pub mod PeriodGroupLemmas
-pub mod SemaphoreGroupLemmas
 pub mod ReplaceLemmas
 pub mod LentTimerLemmas
 pub mod StandingLemmas
@@ -23,3 +16,4 @@ pub mod SettledPartLemmas
 pub mod WholeLemmas
 pub mod ClusterRegisterLemmas
 pub mod RegisterFillLemmas
+pub mod GroupJoinedLemmas

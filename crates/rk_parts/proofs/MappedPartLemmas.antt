@@ -6,9 +6,10 @@ use Rattle.rk_model.specs.State.{no_thread}
 use Rattle.rk_model.specs.Directives.Objects.{has_begun}
 use Rattle.rk_parts.specs.declared.parts.ClusterPart.{ClusterPart}
 use Rattle.rk_parts.specs.Joined.{cluster_of, placed_in, lives_in, held, numbered, threads_of, clusters_of, clusters_by}
-use Rattle.rk_parts.specs.Lent.{found_in, one_more}
+use Rattle.rk_groups.specs.Groups.{one_more}
+use Rattle.rk_parts.specs.Lent.{found_in}
 use Rattle.rk_parts.specs.Threads.{Threads}
-use Rattle.rk_parts.proofs.ListedLemmas.{same_listed}
+use Rattle.rk_groups.proofs.ListedLemmas.{same_listed}
 
 -- what each has as before, the parts have as before
 pub mapped_kept : {X : Type 0} (f : ClusterPart → X) (change : ClusterPart → ClusterPart) → ((p : ClusterPart) → f (change p) ≡ f p) → (parts : List ClusterPart) → map f (map change parts) ≡ map f parts

@@ -16,12 +16,12 @@ use Rattle.rk_model.specs.State.{Plain, ClusterState, no_thread, put_thread}
 use Rattle.rk_model.specs.Directives.Objects.{has_begun}
 use Rattle.rk_model.proofs.IndexLemmas.{nth-with_other, nth-with_same}
 use Rattle.rk_parts.specs.declared.parts.ClusterPart.{ClusterPart}
-use Rattle.rk_parts.specs.declared.parts.GroupPart.{GroupPart}
+use Rattle.rk_groups.specs.declared.group.GroupPart.{GroupPart}
 use Rattle.rk_parts.specs.Joined.{cluster_of, placed_in, lives_in, held, numbered, present_of, threads_of, clusters_of, clusters_by, joined, thread_lent}
 use Rattle.rk_parts.specs.Lent.{found_in, Puts, layouts, stored}
 use Rattle.rk_parts.specs.Threads.{Threads, own_standing}
 use Rattle.rk_parts.specs.Noted.{part_at, no_part, standings_in, key_of, IsKeyed, AreNoted}
-use Rattle.rk_parts.proofs.ListedLemmas.{get_or-listed, length-listed, same_listed, set-listed}
+use Rattle.rk_groups.proofs.ListedLemmas.{get_or-listed, length-listed, same_listed, set-listed}
 use Rattle.rk_parts.proofs.HeldLemmas.{held_found, held_else, held_put, held_nowhere, found_lives, found_within}
 use Rattle.rk_parts.proofs.LayoutLemmas.{layout_put, layouts_same, stored_same, holdings_same, outline_same}
 

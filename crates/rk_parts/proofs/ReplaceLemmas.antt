@@ -12,7 +12,8 @@ use Rattle.rk_parts.specs.declared.parts.ClusterPart.{ClusterPart}
 use Rattle.rk_parts.specs.Joined.{placed_in, lives_in, thread_lent}
 use Rattle.rk_parts.specs.Lent.{found_in, number_in, Replaces}
 use Rattle.rk_parts.specs.Noted.{part_at}
-use Rattle.rk_parts.proofs.HeldLemmas.{found_here, found_later, held_made, held_nowhere, found_lives, found_within, nowhere_lives, lives_nowhere, dead_nowhere}
+use Rattle.rk_groups.proofs.FoundLemmas.{found_here, found_later}
+use Rattle.rk_parts.proofs.HeldLemmas.{held_made, held_nowhere, found_lives, found_within, nowhere_lives, lives_nowhere, dead_nowhere}
 use Rattle.rk_parts.proofs.LayoutLemmas.{Lie, lie, laid, stored_same, holdings_same}
 use Rattle.rk_parts.proofs.PutLemmas.{with_thread, placed_other, placed_same, thread_held, state_put, lives_size, part_set, part_kept}
 

@@ -20,14 +20,16 @@ use Rattle.rk_cluster.specs.Registers.{no_changes}
 use Rattle.rk_cluster.specs.Clusters.{settled}
 use Rattle.rk_line.specs.Places.{threads}
 use Rattle.rk_parts.specs.declared.parts.ClusterPart.{ClusterPart}
-use Rattle.rk_parts.specs.declared.parts.GroupPart.{GroupPart}
+use Rattle.rk_groups.specs.declared.group.GroupPart.{GroupPart}
 use Rattle.rk_parts.specs.Threads.{StandAsNoted, is_ready, own_standing}
-use Rattle.rk_parts.specs.Joined.{listed, cluster_of, placed_in, lives_in, held, numbered, present_of, threads_of, clusters_of, clusters_by, joined, thread_lent}
-use Rattle.rk_parts.specs.Lent.{found_in, number_in, one_more, AreLaid, Layout, layout, layouts, Stored, stored_in, stored}
+use Rattle.rk_groups.specs.GroupObjects.{listed}
+use Rattle.rk_parts.specs.Joined.{cluster_of, placed_in, lives_in, held, numbered, present_of, threads_of, clusters_of, clusters_by, joined, thread_lent}
+use Rattle.rk_groups.specs.Groups.{one_more}
+use Rattle.rk_parts.specs.Lent.{found_in, number_in, AreLaid, Layout, layout, layouts, Stored, stored_in, stored}
 use Rattle.rk_parts.specs.ClusterRegisters.{register}
 use Rattle.rk_parts.specs.Noted.{key_of, IsKeyed, no_part, part_at, standings_in, AreNoted, LinesHold, settled_part, bare, one_lives}
 use Rattle.rk_parts.specs.Settled.{settled_cluster, settled_from}
-use Rattle.rk_parts.proofs.ListedLemmas.{length-listed, same_listed, same_within}
+use Rattle.rk_groups.proofs.ListedLemmas.{length-listed, same_listed, same_within}
 use Rattle.rk_parts.proofs.HeldLemmas.{held_found, held_nowhere, found_lives, found_within, nowhere_lives, lives_nowhere}
 use Rattle.rk_parts.proofs.LayoutLemmas.{Lie, lie}
 use Rattle.rk_parts.proofs.PutLemmas.{clusters_joined, thread_held, lives_size, length_threads, length_clusters}

@@ -4,17 +4,18 @@ use Rattle.std.specs.Bool.{if◌then◌else◌}
 use Rattle.std.proofs.lemmas.List.{length-map, drop_more, take_more_set, drop-set-lt}
 use Rattle.rk_model.specs.declared.scenario.Scenario.{Scenario}
 use Rattle.rk_parts.specs.declared.parts.ClusterPart.{ClusterPart}
-use Rattle.rk_parts.specs.declared.parts.GroupPart.{GroupPart}
+use Rattle.rk_groups.specs.declared.group.GroupPart.{GroupPart}
 use Rattle.rk_parts.specs.declared.parts.AllParts.{AllParts}
 use Rattle.rk_model.specs.Lists.{nth}
 use Rattle.rk_model.specs.State.{Plain, SemaphoreState, no_semaphore, no_barrier, no_partition, no_period}
 use Rattle.rk_parts.specs.Holdings.{holdings}
-use Rattle.rk_parts.specs.Joined.{semaphore_group, semaphore_in, semaphores_of, barrier_group, barrier_in, barriers_of, partition_group, partition_in, partitions_of, period_group, period_in, periods_of, held_by, present_of, threads_of, clusters_of, plain_of}
+use Rattle.rk_groups.specs.GroupObjects.{semaphore_group, semaphore_in, semaphores_of, barrier_group, barrier_in, barriers_of, partition_group, partition_in, partitions_of, period_group, period_in, periods_of, held_by}
+use Rattle.rk_parts.specs.Joined.{present_of, threads_of, clusters_of, plain_of}
 use Rattle.rk_parts.specs.Lent.{AreLaid, layout, layouts, stored}
 use Rattle.rk_parts.specs.Noted.{part_at, standings_in, key_of, IsKeyed, AreNoted}
 use Rattle.rk_parts.specs.Whole.{AreWhole, AreFour, ticks_of, ticks_in, at_tick, group_at_tick}
 use Rattle.rk_places.specs.Stores.{group_of}
-use Rattle.rk_parts.proofs.FoundGroupLemmas.{semaphores_same, barriers_same, partitions_same, periods_same}
+use Rattle.rk_groups.proofs.FoundGroupLemmas.{semaphores_same, barriers_same, partitions_same, periods_same}
 use Rattle.rk_parts.proofs.HoldingLemmas.{held_kept}
 use Rattle.rk_parts.proofs.MappedPartLemmas.{mapped_kept, LeavesThreads, threads_mapped, clusters_mapped}
 use Rattle.rk_parts.proofs.PutLemmas.{Ranked, keys_in}

@@ -4,15 +4,16 @@ use Rattle.std.proofs.lemmas.List.{length-map}
 use Rattle.rk_model.specs.declared.scenario.Scenario.{Scenario}
 use Rattle.rk_model.specs.Scheduling.Settling.{settle}
 use Rattle.rk_parts.specs.declared.parts.ClusterPart.{ClusterPart}
-use Rattle.rk_parts.specs.declared.parts.GroupPart.{GroupPart}
+use Rattle.rk_groups.specs.declared.group.GroupPart.{GroupPart}
 use Rattle.rk_parts.specs.declared.parts.AllParts.{AllParts}
 use Rattle.rk_parts.specs.Holdings.{AreHeld, holdings}
-use Rattle.rk_parts.specs.Joined.{semaphore_group, barrier_group, partition_group, period_group, joined, present_of, semaphores_of, plain_of}
+use Rattle.rk_groups.specs.GroupObjects.{semaphore_group, barrier_group, partition_group, period_group, semaphores_of}
+use Rattle.rk_parts.specs.Joined.{joined, present_of, plain_of}
 use Rattle.rk_parts.specs.Lent.{number_in, AreLaid, layouts, Stored, stored_in, stored}
 use Rattle.rk_parts.specs.Noted.{part_at, AreNoted, LinesHold, settled_part, bare}
-use Rattle.rk_parts.specs.Groups.{GroupFrame, group_frame, group_frames, holds_semaphores, holds_partitions, holds_periods, is_lent}
+use Rattle.rk_groups.specs.Groups.{GroupFrame, group_frame, group_frames, holds_semaphores, holds_partitions, holds_periods, is_lent}
 use Rattle.rk_parts.specs.Whole.{ticks_of, ticks_in, AreFour, AreWhole}
-use Rattle.rk_parts.proofs.FoundGroupLemmas.{four_hold}
+use Rattle.rk_groups.proofs.FoundGroupLemmas.{four_hold}
 use Rattle.rk_parts.proofs.HoldingLemmas.{holdings_settled, held_kept}
 use Rattle.rk_parts.proofs.LayoutLemmas.{lie}
 use Rattle.rk_parts.proofs.LentTimerLemmas.{number_found}

@@ -1,5 +1,5 @@
 -- Where things stand among lent parts, how the parts lie, and what a change of them does.
-use Rattle.std.specs.Prelude.{ℕ, ◌+◌, ◌≡◌, ◌<◌, List, [], ◌∷◌, Bool, true, false, Option, Some, None, ◌==◌, map, length, take, if◌then◌else◌}
+use Rattle.std.specs.Prelude.{ℕ, ◌≡◌, ◌<◌, List, [], ◌∷◌, Bool, true, false, Option, Some, None, ◌==◌, map, length, take, if◌then◌else◌}
 use Rattle.std.specs.List.{slice_index_or, AllByRecursion}
 use Rattle.rk_model.specs.declared.limits.TheConstants.{MOST_OBJECTS}
 use Rattle.rk_model.specs.declared.scenario.Scenario.{Scenario}
@@ -15,13 +15,10 @@ use Rattle.rk_model.specs.Scheduling.Timers.{take_due}
 use Rattle.rk_model.specs.Text.Scenarios.{cpus_in}
 use Rattle.rk_cluster.specs.Clusters.{Cluster}
 use Rattle.rk_parts.specs.declared.parts.ClusterPart.{ClusterPart}
-use Rattle.rk_parts.specs.declared.parts.GroupPart.{GroupPart}
+use Rattle.rk_groups.specs.declared.group.GroupPart.{GroupPart}
+use Rattle.rk_groups.specs.Groups.{one_more}
 use Rattle.rk_parts.specs.Holdings.{holder, holdings, IsNotedIn}
 use Rattle.rk_parts.specs.Joined.{joined, lives_in, present_of, threads_of, clusters_by, thread_lent}
-
-abbrev pub one_more : Option ℕ → Option ℕ
-one_more None = None
-one_more (Some n) = Some (n + 1)
 
 -- the first of these parts in which a thread lives
 abbrev pub found_in : List ClusterPart → ℕ → Option ℕ

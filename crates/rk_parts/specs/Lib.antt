@@ -2,7 +2,6 @@ pub mod Threads
 pub mod Joined
 pub mod Holdings
 pub mod Lent
-pub mod Groups
 pub mod ClusterRegisters
 pub mod Noted
 pub mod Seats

@@ -1,10 +1,11 @@
 -- All parts of a running kernel.
 use Rattle.std.specs.Prelude.{ℕ, ◌≡◌, ◌<◌, List, [], ◌∷◌, map, length, replicate}
 use Rattle.rk_parts.specs.declared.parts.ClusterPart.{ClusterPart}
-use Rattle.rk_parts.specs.declared.parts.GroupPart.{GroupPart}
+use Rattle.rk_groups.specs.declared.group.GroupPart.{GroupPart}
 use Rattle.rk_parts.specs.declared.parts.AllParts.{AllParts}
 use Rattle.rk_parts.specs.Holdings.{AreHeld, holdings}
-use Rattle.rk_parts.specs.Joined.{semaphore_group, barrier_group, partition_group, period_group, present_of, semaphores_of}
+use Rattle.rk_groups.specs.GroupObjects.{semaphore_group, barrier_group, partition_group, period_group, semaphores_of}
+use Rattle.rk_parts.specs.Joined.{present_of}
 use Rattle.rk_parts.specs.Lent.{Stored, AreLaid, layouts, stored}
 use Rattle.rk_parts.specs.Noted.{part_at}
 

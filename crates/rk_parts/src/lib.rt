@@ -2,14 +2,10 @@
 #![tactic(auto)]
 
 pub mod arrival;
-pub mod groups;
 pub mod holdings;
 pub mod lent;
-pub mod partitions;
 pub mod parts;
-pub mod periods;
 pub mod processors;
-pub mod semaphores;
 pub mod settle;
 pub mod standing;
 pub mod table;

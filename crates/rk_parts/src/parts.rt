@@ -6,11 +6,8 @@ use crate::holdings::Holdings;
 use crate::table::Table;
 use crate::threads::Threads;
 use rk_cluster::{Cluster, Moves};
-use rk_model::{Scenario, Wakes};
-use rk_partition::PartitionStore;
-use rk_period::PeriodStore;
-use rk_sem::SemStore;
-use rk_signal::BarrierStore;
+use rk_groups::group::GroupPart;
+use rk_model::Scenario;
 use rk_wheel::Wheel;
 
 /// The part of a cluster. That of a cluster that the scenario lacks has no processors and no threads.
@@ -28,23 +25,6 @@ pub struct ClusterPart {
     pub holdings: Holdings,
     /// Room for what settling does to the threads of the cluster.
     pub moves: Moves,
-}
-
-/// The part of a group of objects. An object of index `i` belongs to the group `(i - 1) % 4`.
-#[derive(Debug, Drop)]
-pub struct GroupPart {
-    /// The present tick.
-    pub present: u32,
-    /// The semaphores of the group.
-    pub semaphores: SemStore,
-    /// The barriers of the group.
-    pub barriers: BarrierStore,
-    /// The partitions of the group.
-    pub partitions: PartitionStore,
-    /// The periods of the group.
-    pub periods: PeriodStore,
-    /// The waits that the last call of a manager ended.
-    pub wakes: Wakes,
 }
 
 /// The part of the table: the names and the indices of the objects of all classes.

@@ -6,7 +6,7 @@ ghost use Rattle.rk_model.specs.declared.scenario.Scenario.{Scenario as Scenario
 ghost use Rattle.rk_model.specs.Names.{Table};
 ghost use Rattle.rk_model.specs.Scheduling.Running.{running, caller, least, why_of};
 ghost use Rattle.rk_model.specs.Text.Scenarios.{cpus_in};
-ghost use Rattle.rk_parts.specs.declared.parts.GroupPart.{GroupPart};
+ghost use Rattle.rk_groups.specs.declared.group.GroupPart.{GroupPart};
 ghost use Rattle.rk_parts.specs.Joined.{joined};
 ghost use Rattle.rk_parts.specs.Lent.{layouts, AreLaid};
 ghost use Rattle.rk_parts.specs.Seats.{seat_in, is_seat, seat_of};

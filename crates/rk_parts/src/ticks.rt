@@ -5,7 +5,8 @@ ghost use Rattle.rk_parts.specs.Joined.{present_of, plain_of};
 ghost use Rattle.rk_parts.specs.Noted.{AreNoted};
 ghost use Rattle.rk_parts.specs.Whole.{AreWhole, at_tick, group_at_tick};
 
-use crate::parts::{AllParts, ClusterPart, GroupPart};
+use crate::parts::{AllParts, ClusterPart};
+use rk_groups::group::GroupPart;
 
 /// The present tick, as the lent parts have it.
 pub fn present(clusters: &[ClusterPart]) -> u32

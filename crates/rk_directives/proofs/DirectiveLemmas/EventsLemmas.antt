@@ -17,7 +17,7 @@ use Rattle.rk_model.specs.Directives.Waits.{start_limited, end_wait}
 use Rattle.rk_model.specs.Directives.Tasks.{task_named}
 use Rattle.rk_model.specs.Directives.Events.{seized, left_of, with_pending, with_seized, seized_by, sent, event_send, receive_later, receive_by, event_receive}
 use Rattle.rk_parts.specs.declared.parts.ClusterPart.{ClusterPart}
-use Rattle.rk_parts.specs.declared.parts.GroupPart.{GroupPart}
+use Rattle.rk_groups.specs.declared.group.GroupPart.{GroupPart}
 use Rattle.rk_parts.specs.Joined.{joined, lent, thread_lent}
 use Rattle.rk_parts.specs.Lent.{Puts}
 use Rattle.rk_directives.specs.Calls.{IsCaller}

@@ -29,16 +29,18 @@ use Rattle.rk_model.proofs.BooleanLemmas.{equal_test, same_number}
 use Rattle.rk_model.proofs.CountLemmas.{has_none}
 use Rattle.rk_model.proofs.IndexLemmas.{nth-with_same, nth-with_other, length-with_nth, with_nth-twice}
 use Rattle.rk_parts.specs.declared.parts.ClusterPart.{ClusterPart}
-use Rattle.rk_parts.specs.declared.parts.GroupPart.{GroupPart}
-use Rattle.rk_parts.specs.Groups.{PutsBarrier, ended_waits, waited_at, woken_at}
-use Rattle.rk_parts.specs.Joined.{placed_in, lives_in, held, joined, threads_of, semaphores_of, barriers_of, thread_lent, barrier_lent}
+use Rattle.rk_groups.specs.declared.group.GroupPart.{GroupPart}
+use Rattle.rk_groups.specs.Groups.{PutsBarrier, ended_waits, waited_at, woken_at}
+use Rattle.rk_groups.specs.GroupObjects.{semaphores_of, barriers_of, barrier_lent}
+use Rattle.rk_parts.specs.Joined.{placed_in, lives_in, held, joined, threads_of, thread_lent}
 use Rattle.rk_parts.specs.Lent.{Frame}
 use Rattle.rk_model.specs.declared.state.Armer.TheVariants.{Thread as OfThread}
 use Rattle.rk_model.specs.Scheduling.Timers.{arm}
 use Rattle.rk_directives.proofs.GentleChangeLemmas.{waits_within}
 use Rattle.rk_directives.proofs.KeptHoldingLemmas.{still_held, same_owners}
 use Rattle.rk_directives.proofs.DirectiveLemmas.LentLemmas.{laid_kept}
-use Rattle.rk_parts.proofs.GroupLemmas.{length_barriers, with_nth-still, barrier_joined}
+use Rattle.rk_groups.proofs.GroupLemmas.{length_barriers, with_nth-still}
+use Rattle.rk_parts.proofs.GroupJoinedLemmas.{barrier_joined}
 use Rattle.rk_parts.proofs.PutLemmas.{length_threads, thread_held}
 use Rattle.rk_directives.specs.Does.{Becomes, BecomesBoth, BecomesEvery, DoesBoth, DoesEvery, DoesGroups, Creates, IsQueueOf, AllLive, woken, lent_both, with_table}
 use Rattle.rk_directives.specs.Sound.{is_waiting}

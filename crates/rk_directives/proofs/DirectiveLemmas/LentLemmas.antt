@@ -25,15 +25,16 @@ use Rattle.rk_model.specs.Directives.Waits.{start_wait, start_limited, begin_lim
 use Rattle.rk_model.specs.Directives.Semaphores.{has_obtained}
 use Rattle.rk_model.specs.Directives.Tasks.{task_named, has_created, task_removed, task_delete, without_task}
 use Rattle.rk_parts.specs.declared.parts.ClusterPart.{ClusterPart}
-use Rattle.rk_parts.specs.declared.parts.GroupPart.{GroupPart}
+use Rattle.rk_groups.specs.declared.group.GroupPart.{GroupPart}
 use Rattle.rk_parts.specs.declared.parts.AllParts.{AllParts}
-use Rattle.rk_parts.specs.Joined.{joined, lent, present_of, threads_of, thread_lent, semaphores_of, periods_of, timers_lent, plain_of}
-use Rattle.rk_parts.specs.Groups.{Leaves}
+use Rattle.rk_groups.specs.GroupObjects.{semaphores_of, periods_of}
+use Rattle.rk_parts.specs.Joined.{joined, lent, present_of, threads_of, thread_lent, timers_lent, plain_of}
+use Rattle.rk_groups.specs.Groups.{Leaves}
 use Rattle.rk_model.proofs.IndexLemmas.{nth-with_kept}
 use Rattle.rk_parts.specs.Lent.{number_in, AreLaid, layouts, Frame, frame, Puts, Replaces, PutsTimers, with_timers}
 use Rattle.rk_parts.specs.Noted.{part_at}
 use Rattle.rk_parts.specs.Whole.{AreWhole}
-use Rattle.rk_parts.proofs.GroupLemmas.{left_joined}
+use Rattle.rk_parts.proofs.GroupJoinedLemmas.{left_joined}
 use Rattle.rk_parts.proofs.PutLemmas.{put_joined, length_clusters}
 use Rattle.rk_parts.proofs.LentTimerLemmas.{timers_home}
 use Rattle.rk_parts.proofs.WholeLemmas.{lent_whole}

@@ -26,12 +26,13 @@ use Rattle.rk_period.specs.declared.period.Passed.{Passed}
 use Rattle.rk_period.specs.declared.period.Passed.TheVariants.{Woke, Postponed}
 use Rattle.rk_period.specs.Periods.{called as called_on, status_of_query, status_of_begin, reply_to_call, passing_of, cancelled_by as cancelled_on, reply_to_cancel, removed, reply_to_remove}
 use Rattle.rk_parts.specs.declared.parts.ClusterPart.{ClusterPart}
-use Rattle.rk_parts.specs.declared.parts.GroupPart.{GroupPart}
-use Rattle.rk_parts.specs.Groups.{PutsPeriod}
-use Rattle.rk_parts.specs.Joined.{joined, present_of, thread_lent, period_lent}
+use Rattle.rk_groups.specs.declared.group.GroupPart.{GroupPart}
+use Rattle.rk_groups.specs.Groups.{PutsPeriod}
+use Rattle.rk_groups.specs.GroupObjects.{period_lent}
+use Rattle.rk_parts.specs.Joined.{joined, present_of, thread_lent}
 use Rattle.rk_parts.specs.Lent.{AreLaid, layouts, Frame, Puts, PutsTimers, with_timers}
-use Rattle.rk_parts.proofs.GroupLemmas.{with_nth-still}
-use Rattle.rk_parts.proofs.PeriodGroupLemmas.{period_joined}
+use Rattle.rk_groups.proofs.GroupLemmas.{with_nth-still}
+use Rattle.rk_parts.proofs.GroupJoinedLemmas.{period_joined}
 use Rattle.rk_directives.specs.Does.{BecomesBoth, DoesBoth, DoesEvery, DoesGroups, Creates, answered, with_table}
 use Rattle.rk_directives.proofs.KeptHoldingLemmas.{still_held, same_owners}
 use Rattle.rk_directives.proofs.DirectiveLemmas.LentLemmas.{laid_kept, puts_state}

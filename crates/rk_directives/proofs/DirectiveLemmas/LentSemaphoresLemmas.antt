@@ -37,12 +37,14 @@ use Rattle.rk_model.proofs.IndexLemmas.{nth-with_same, with_nth-twice}
 use Rattle.rk_queue.proofs.ServiceLemmas.{first_waits, first_none}
 use Rattle.rk_sem.specs.SemaphoreCalls.{obtained, reply_to_obtain, is_serving, serves, released, reply_to_release, woken_by_releasing, woken_by_release, woken_by_flush, woken_by_remove}
 use Rattle.rk_parts.specs.declared.parts.ClusterPart.{ClusterPart}
-use Rattle.rk_parts.specs.declared.parts.GroupPart.{GroupPart}
-use Rattle.rk_parts.specs.Joined.{joined, lent, semaphores_of, thread_lent, semaphore_lent}
-use Rattle.rk_parts.specs.Groups.{PutsSemaphore, ended_waits}
+use Rattle.rk_groups.specs.declared.group.GroupPart.{GroupPart}
+use Rattle.rk_groups.specs.GroupObjects.{semaphores_of, semaphore_lent}
+use Rattle.rk_parts.specs.Joined.{joined, lent, thread_lent}
+use Rattle.rk_groups.specs.Groups.{PutsSemaphore, ended_waits}
 use Rattle.rk_parts.specs.Lent.{Frame}
-use Rattle.rk_parts.proofs.GroupLemmas.{ended_is, with_nth-still}
-use Rattle.rk_parts.proofs.SemaphoreGroupLemmas.{length_semaphores, semaphore_joined}
+use Rattle.rk_groups.proofs.GroupLemmas.{ended_is, with_nth-still}
+use Rattle.rk_groups.proofs.SemaphoreGroupLemmas.{length_semaphores}
+use Rattle.rk_parts.proofs.GroupJoinedLemmas.{semaphore_joined}
 use Rattle.rk_directives.specs.Calls.{ticks_of, deleted_at}
 use Rattle.rk_directives.specs.Does.{Becomes, BecomesBoth, BecomesEvery, Comes, DoesBoth, DoesEvery, Creates, AllLive, IsQueueOf, KeepsHeld, KeepsOwners, woken, answered, lent_both, with_table}
 use Rattle.rk_directives.proofs.KeptHoldingLemmas.{put_owners, still_held}

@@ -14,7 +14,7 @@ use Rattle.rk_model.specs.declared.scenario.Target.{Target}
 use Rattle.rk_model.specs.Directives.Objects.{is_live, live_one, object_named, create}
 use Rattle.rk_model.specs.Directives.Outcomes.{answer_of, changed}
 use Rattle.rk_parts.specs.declared.parts.ClusterPart.{ClusterPart}
-use Rattle.rk_parts.specs.declared.parts.GroupPart.{GroupPart}
+use Rattle.rk_groups.specs.declared.group.GroupPart.{GroupPart}
 use Rattle.rk_parts.specs.Holdings.{holdings}
 use Rattle.rk_parts.specs.Joined.{joined}
 use Rattle.rk_parts.specs.Lent.{AreLaid, layouts, stored}

@@ -18,12 +18,13 @@ use Rattle.rk_model.specs.Directives.Partitions.{is_out, is_in_use, memory_refus
 use Rattle.rk_model.proofs.IndexLemmas.{length-with_nth}
 use Rattle.rk_partition.specs.Partitions.{without_first, all_but_first, reply_to_get, returned, reply_to_return, deleted, reply_to_delete, refused, successful}
 use Rattle.rk_parts.specs.declared.parts.ClusterPart.{ClusterPart}
-use Rattle.rk_parts.specs.declared.parts.GroupPart.{GroupPart}
-use Rattle.rk_parts.specs.Groups.{PutsPartition}
-use Rattle.rk_parts.specs.Joined.{joined, lent, partition_lent}
+use Rattle.rk_groups.specs.declared.group.GroupPart.{GroupPart}
+use Rattle.rk_groups.specs.Groups.{PutsPartition}
+use Rattle.rk_groups.specs.GroupObjects.{partition_lent}
+use Rattle.rk_parts.specs.Joined.{joined, lent}
 use Rattle.rk_parts.specs.NamesAgree.{AreNamed}
-use Rattle.rk_parts.proofs.GroupLemmas.{with_nth-still}
-use Rattle.rk_parts.proofs.PartitionGroupLemmas.{partition_joined}
+use Rattle.rk_groups.proofs.GroupLemmas.{with_nth-still}
+use Rattle.rk_parts.proofs.GroupJoinedLemmas.{partition_joined}
 use Rattle.rk_directives.specs.Calls.{IsCaller}
 use Rattle.rk_directives.specs.Does.{DoesBoth, DoesGroups, Creates, answered, with_table}
 use Rattle.rk_directives.specs.Sound.{IsSound, IsGentle}

@@ -1,7 +1,7 @@
 use Rattle.std.proofs.Common.{None, ap, sym, ◌∙◌}
 use Rattle.rk_model.specs.declared.entry.Answer.TheVariants.{Done}
 use Rattle.rk_model.specs.declared.status.Status.TheVariants.{Successful}
-use Rattle.rk_parts.specs.Joined.{barrier_lent}
+use Rattle.rk_groups.specs.GroupObjects.{barrier_lent}
 use Rattle.rk_directives.proofs.NamesAgreeLemmas.{first_absent}
 use Rattle.rk_directives.proofs.DirectiveLemmas.LentBarriersLemmas.{accepts, creates, creates_none}
 use Rattle.rk_directives.proofs.barriers.barrier_create.Goals as goal

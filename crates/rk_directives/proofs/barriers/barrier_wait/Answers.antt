@@ -1,8 +1,8 @@
 use Rattle.std.proofs.Common.{ap, sym, subst, ◌∙◌}
 use Rattle.rk_model.specs.Lists.{has}
 use Rattle.rk_model.specs.Directives.Barriers.{is_full}
-use Rattle.rk_parts.specs.Groups.{PutsBarrier, waited_at}
-use Rattle.rk_parts.specs.Joined.{barrier_lent}
+use Rattle.rk_groups.specs.Groups.{PutsBarrier, waited_at}
+use Rattle.rk_groups.specs.GroupObjects.{barrier_lent}
 use Rattle.rk_directives.proofs.DirectiveLemmas.LentBarriersLemmas.{free_absent, woken_live, waits_there, waits_full, waits_none, was_full, was_not_full}
 use Rattle.rk_directives.proofs.barriers.barrier_wait.Goals as goal
 

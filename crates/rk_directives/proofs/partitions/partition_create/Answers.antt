@@ -1,7 +1,7 @@
 use Rattle.std.proofs.Common.{None, ap, sym, ◌∙◌}
 use Rattle.rk_model.specs.declared.entry.Answer.TheVariants.{Done}
 use Rattle.rk_model.specs.declared.status.Status.TheVariants.{Successful}
-use Rattle.rk_parts.specs.Joined.{partition_lent}
+use Rattle.rk_groups.specs.GroupObjects.{partition_lent}
 use Rattle.rk_directives.proofs.NamesAgreeLemmas.{first_absent}
 use Rattle.rk_directives.proofs.DirectiveLemmas.PartitionsLemmas.{creates, creates_none}
 use Rattle.rk_directives.proofs.partitions.partition_create.Goals as goal

@@ -1,7 +1,7 @@
 use Rattle.std.proofs.Common.{ap, sym, ◌∙◌}
 use Rattle.rk_model.specs.declared.entry.Reply.{Reply}
 use Rattle.rk_model.specs.Directives.Partitions.{is_in_use}
-use Rattle.rk_parts.specs.Joined.{partition_lent}
+use Rattle.rk_groups.specs.GroupObjects.{partition_lent}
 use Rattle.rk_directives.proofs.NamesAgreeLemmas.{lives_named}
 use Rattle.rk_directives.proofs.DirectiveLemmas.PartitionsLemmas.{was_unused, was_used, removes, keeps}
 use Rattle.rk_directives.proofs.partitions.remove_at.Goals as goal

@@ -1,7 +1,7 @@
 use Rattle.std.proofs.Common.{None, ap, ◌∙◌}
 use Rattle.rk_model.specs.declared.entry.Answer.TheVariants.{Done}
 use Rattle.rk_model.specs.declared.status.Status.TheVariants.{Successful}
-use Rattle.rk_parts.specs.Joined.{period_lent}
+use Rattle.rk_groups.specs.GroupObjects.{period_lent}
 use Rattle.rk_directives.proofs.NamesAgreeLemmas.{first_absent}
 use Rattle.rk_directives.proofs.DirectiveLemmas.LentPeriodsLemmas.{creates_period, creates_no_period}
 use Rattle.rk_directives.proofs.periods.period_create.Goals as goal

@@ -1,5 +1,5 @@
 use Rattle.std.proofs.Common.{◌∙◌}
-use Rattle.rk_parts.specs.Joined.{period_lent}
+use Rattle.rk_groups.specs.GroupObjects.{period_lent}
 use Rattle.rk_directives.proofs.NamesAgreeLemmas.{lives_named}
 use Rattle.rk_directives.proofs.DirectiveLemmas.LentPeriodsLemmas.{ends_period, ends_not}
 use Rattle.rk_directives.proofs.periods.remove_at.Goals as goal

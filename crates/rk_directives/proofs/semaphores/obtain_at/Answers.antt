@@ -6,7 +6,8 @@ use Rattle.rk_model.specs.State.{SemaphoreState, semaphore_at}
 use Rattle.rk_model.specs.Directives.Objects.{has_begun}
 use Rattle.rk_model.specs.Directives.Semaphores.{obtaining, reaches_from, obtained_at}
 use Rattle.rk_model.specs.Directives.Waits.{OfSemaphore}
-use Rattle.rk_parts.specs.Joined.{semaphore_lent, thread_lent}
+use Rattle.rk_groups.specs.GroupObjects.{semaphore_lent}
+use Rattle.rk_parts.specs.Joined.{thread_lent}
 use Rattle.rk_directives.specs.Does.{DoesBoth}
 use Rattle.rk_directives.proofs.KeptHoldingLemmas.{noted_held, put_others}
 use Rattle.rk_directives.proofs.DirectiveLemmas.LentBarriersLemmas.{free_apart}

@@ -2,8 +2,9 @@ use Rattle.std.proofs.Common.{inl, inr, ap, refl, sym, subst, ◌∙◌}
 use Rattle.rk_queue.proofs.QueueLemmas.{queue_few}
 use Rattle.rk_model.specs.State.{Plain, SemaphoreState}
 use Rattle.rk_model.specs.Directives.Semaphores.{up_to_date}
-use Rattle.rk_parts.specs.Groups.{PutsSemaphore}
-use Rattle.rk_parts.specs.Joined.{lent, semaphore_lent}
+use Rattle.rk_groups.specs.Groups.{PutsSemaphore}
+use Rattle.rk_groups.specs.GroupObjects.{semaphore_lent}
+use Rattle.rk_parts.specs.Joined.{lent}
 use Rattle.rk_directives.specs.Does.{AllLive, woken}
 use Rattle.rk_directives.proofs.KeptHoldingLemmas.{noted_held, noted_live, noted_then, put_others, still_held}
 use Rattle.rk_directives.proofs.DirectiveLemmas.LentSemaphoresLemmas.{IsPrepared, prepared_live, prepared_owners, put_there, released_owner, releases_prepared}

@@ -3,7 +3,8 @@ use Rattle.rk_model.specs.declared.entry.Answer.TheVariants.{Done}
 use Rattle.rk_model.specs.declared.status.Status.TheVariants.{Successful}
 use Rattle.rk_model.specs.State.{SemaphoreState}
 use Rattle.rk_model.specs.Directives.Objects.{has_begun}
-use Rattle.rk_parts.specs.Joined.{semaphore_lent, thread_lent}
+use Rattle.rk_groups.specs.GroupObjects.{semaphore_lent}
+use Rattle.rk_parts.specs.Joined.{thread_lent}
 use Rattle.rk_directives.proofs.KeptHoldingLemmas.{noted_held, put_others}
 use Rattle.rk_directives.proofs.NamesAgreeLemmas.{first_absent}
 use Rattle.rk_directives.proofs.DirectiveLemmas.LentSemaphoresLemmas.{accepted_judged, accepted_kept, created_owner, creates, creates_none, put_there}

@@ -1,6 +1,6 @@
 use Rattle.std.proofs.Common.{sym, subst, ◌∙◌}
 use Rattle.rk_model.specs.declared.status.Status.TheVariants.{ObjectWasDeleted}
-use Rattle.rk_parts.specs.Joined.{semaphore_lent}
+use Rattle.rk_groups.specs.GroupObjects.{semaphore_lent}
 use Rattle.rk_directives.specs.Does.{AllLive}
 use Rattle.rk_directives.proofs.NamesAgreeLemmas.{lives_named}
 use Rattle.rk_directives.proofs.DirectiveLemmas.LentSemaphoresLemmas.{waiters_live, deleted_woken, removes}

@@ -1,7 +1,7 @@
 use Rattle.std.proofs.Common.{◌≡◌, List, drop}
 use Rattle.rk_model.specs.declared.scenario.Scenario.{Scenario}
 use Rattle.rk_model.specs.Names.{Table}
-use Rattle.rk_parts.specs.declared.parts.GroupPart.{GroupPart}
+use Rattle.rk_groups.specs.declared.group.GroupPart.{GroupPart}
 use Rattle.rk_parts.specs.Holdings.{holdings}
 use Rattle.rk_parts.specs.Joined.{joined}
 use Rattle.rk_parts.specs.Lent.{AreLaid, layouts, frame}

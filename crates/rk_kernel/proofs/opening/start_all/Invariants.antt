@@ -1,7 +1,7 @@
 use Rattle.std.proofs.Common.{◌≡◌, List, take, map}
 use Rattle.rk_model.specs.Names.{Table}
 use Rattle.rk_model.specs.Histories.{begun, places}
-use Rattle.rk_parts.specs.declared.parts.GroupPart.{GroupPart}
+use Rattle.rk_groups.specs.declared.group.GroupPart.{GroupPart}
 use Rattle.rk_parts.specs.Holdings.{holdings}
 use Rattle.rk_parts.specs.Joined.{joined}
 use Rattle.rk_parts.specs.Lent.{layouts, stored, AreLaid}

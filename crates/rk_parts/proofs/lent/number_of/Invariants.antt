@@ -1,6 +1,6 @@
 use Rattle.std.proofs.Common.{◌≡◌, drop}
 use Rattle.rk_parts.specs.Lent.{number_in}
-use Rattle.rk_parts.proofs.HeldLemmas.{behind}
+use Rattle.rk_groups.proofs.FoundLemmas.{behind}
 use Rattle.rk_parts.proofs.lent.number_of.Given as goal
 
 abbrev pub invariant-loop-at : goal.invariant-loop-at

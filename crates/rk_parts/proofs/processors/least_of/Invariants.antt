@@ -1,7 +1,7 @@
 use Rattle.std.proofs.Common.{◌≡◌, ◌-◌, List}
 use Rattle.rk_model.specs.Names.{Table}
 use Rattle.rk_model.specs.Scheduling.Running.{cpu_count, least, least_from}
-use Rattle.rk_parts.specs.declared.parts.GroupPart.{GroupPart}
+use Rattle.rk_groups.specs.declared.group.GroupPart.{GroupPart}
 use Rattle.rk_parts.specs.Joined.{joined}
 use Rattle.rk_parts.proofs.processors.least_of.Given as goal
 

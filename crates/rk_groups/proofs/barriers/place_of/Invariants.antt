@@ -1,0 +1,7 @@
+use Rattle.std.proofs.Common.{◌≡◌, drop}
+use Rattle.rk_groups.specs.Groups.{group_in}
+use Rattle.rk_groups.proofs.FoundLemmas.{behind}
+use Rattle.rk_groups.proofs.barriers.place_of.Given as goal
+
+abbrev pub invariant-loop-at : goal.invariant-loop-at
+invariant-loop-at l = behind l.at (group_in (drop l.at l.groups) l.index) ≡ group_in l.groups l.index

@@ -1,0 +1,2 @@
+pub mod GroupObjects
+pub mod Groups

@@ -1,7 +1,0 @@
-use Rattle.std.proofs.Common.{◌≡◌, drop}
-use Rattle.rk_parts.specs.Groups.{group_in}
-use Rattle.rk_parts.proofs.HeldLemmas.{behind}
-use Rattle.rk_parts.proofs.groups.place_of.Given as goal
-
-abbrev pub invariant-loop-at : goal.invariant-loop-at
-invariant-loop-at l = behind l.at (group_in (drop l.at l.groups) l.index) ≡ group_in l.groups l.index

@@ -1,7 +1,0 @@
-use Rattle.std.proofs.Common.{◌≡◌, drop}
-use Rattle.rk_model.specs.Directives.Semaphores.{has_obtained}
-use Rattle.rk_parts.specs.Joined.{semaphores_of}
-use Rattle.rk_parts.proofs.semaphores.has_obtained.Given as goal
-
-abbrev pub invariant-loop-at : goal.invariant-loop-at
-invariant-loop-at l = has_obtained (drop l.at (semaphores_of l.groups)) l.thread ≡ has_obtained (semaphores_of l.groups) l.thread
