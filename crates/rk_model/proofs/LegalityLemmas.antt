@@ -7,7 +7,9 @@ use Rattle.rk_model.specs.declared.entry.Entry.{Entry}
 use Rattle.rk_model.specs.declared.entry.Reply.{Reply}
 use Rattle.rk_model.specs.declared.entry.What.TheVariants.{Tick, End}
 use Rattle.rk_model.specs.State.{Plain, thread_at}
-use Rattle.rk_model.specs.Scheduling.Running.{all_cpus, cpu_count, view_of, ready, caller, first_of, least_from, least}
+use Rattle.rk_model.specs.Scheduling.Helping.{helped}
+use Rattle.rk_model.specs.Scheduling.Seats.{all_cpus, cpu_count}
+use Rattle.rk_model.specs.Scheduling.Running.{view_of, ready, caller, first_of, least_from, least}
 use Rattle.rk_model.specs.Steps.{Act, act, act_of, clock_at, clock_of, what_of, clock_entry}
 use Rattle.rk_model.specs.Scheduling.Ticks.{tick}
 use Rattle.rk_model.specs.Histories.{opening, next_of, next_by, after_from, is_end, ends, IsOf, LegalFrom, turn, lowest_on, lowest_from}
@@ -117,7 +119,7 @@ no_caller_from k p (suc n) q e low high =
     no_caller_by k p n q (caller k p) refl e low high (no_caller_from k (p + 1) n q)
 
 past_caller : (k : Plain) (q : ℕ) → cpu_count k ≤ q → caller k q ≡ None
-past_caller k q h = ap (λ o. ready k (view_of k o)) (get_or_past (all_cpus k.clusters) q None h)
+past_caller k q h = ap (λ o. ready k (view_of k o (helped k q))) (get_or_past (all_cpus k.clusters) q None h)
 
 no_caller : (k : Plain) (q : ℕ) → least k ≡ None → caller k q ≡ None
 no_caller k q e = ⊎_elim (λ h. no_caller_from k 0 (cpu_count k) q e (omega arith) (omega (arith, h))) (λ h. past_caller k q h) (cases_lt q (cpu_count k))

@@ -2,6 +2,8 @@ pub mod Priorities
 pub mod Chains
 pub mod ReadyQueues
 pub mod Settling
+pub mod Seats
+pub mod Helping
 pub mod Running
 pub mod Timers
 pub mod Ticks

@@ -48,3 +48,6 @@ pub const MOST_LINES: usize = 1_000;
 
 /// The most bytes of a scenario's text.
 pub const MOST_BYTES: usize = 1_048_576;
+
+/// The most bytes of an input of `check`: of a scenario, and of a schedule behind it.
+pub const MOST_CHECKED: usize = 104_857_600;

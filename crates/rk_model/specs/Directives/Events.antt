@@ -40,7 +40,7 @@ seized_by pending (Some ForTime) = None
 seized_by pending (Some (ForEvents set all)) = seized pending set all
 seized_by pending (Some (AtBarrier i)) = None
 seized_by pending (Some (ForPeriod i)) = None
-seized_by pending (Some (ForSemaphore i)) = None
+seized_by pending (Some (ForSemaphore i spins)) = None
 
 -- the state in which events were sent to a task, which has these pending then and waits so: it seizes those that it waits for
 abbrev pub sent : Plain → ℕ → ℕ → Option Wait → Plain

@@ -320,9 +320,9 @@ abbrev pub obtained_at : Plain → ℕ → ℕ → Obtaining → Outcome
 obtained_at k t i Nests = done 0 (put_semaphore k i (nested (semaphore_at k i)))
 obtained_at k t i Takes = done 0 (put_semaphore k i (taken t (semaphore_at k i)))
 obtained_at k t i (NotObtained status) = Refused status
-obtained_at k t i (Enters ticks) = Waiting (begin_limited k t (ForSemaphore i) ticks)
+obtained_at k t i (Enters ticks) = Waiting (begin_limited k t (ForSemaphore i (is_mrsp (semaphore_at k i).protocol)) ticks)
 
--- sem.obtain (rtems_semaphore_obtain): INVALID_ID where the semaphore is unknown; where the caller owns it, its nesting rises by one; where it is free, the caller takes it; UNSATISFIED with the wish `nowait`; INCORRECT_STATE where it has an owner whose chain reaches the caller; else the caller waits with the wish as its limit.
+-- sem.obtain (rtems_semaphore_obtain): INVALID_ID where the semaphore is unknown; where the caller owns it, its nesting rises by one; where it is free, the caller takes it; UNSATISFIED with the wish `nowait`; INCORRECT_STATE where it has an owner whose chain reaches the caller; else the caller waits with the wish as its limit, and for a MrsP semaphore it spins.
 abbrev pub semaphore_obtain : Plain → ℕ → Target → Wish → Outcome
 semaphore_obtain k t id wish =
     on_found (object_named k t Semaphore id) (λ i. obtained_at k t i (obtaining t wish (reaches_from k (semaphore_at k i).owner t) (semaphore_at k i)))

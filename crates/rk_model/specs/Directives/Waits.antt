@@ -32,7 +32,7 @@ object_of_wait (Some ForTime) = None
 object_of_wait (Some (ForEvents set all)) = None
 object_of_wait (Some (AtBarrier i)) = Some (OfBarrier i)
 object_of_wait (Some (ForPeriod i)) = None
-object_of_wait (Some (ForSemaphore i)) = Some (OfSemaphore i)
+object_of_wait (Some (ForSemaphore i spins)) = Some (OfSemaphore i)
 
 -- whether a thread that waits for this stands in the queue of an object
 abbrev pub is_for : Option Object → Object → Bool
@@ -141,4 +141,4 @@ reply_at_timer (Some ForTime) = bare Successful
 reply_at_timer (Some (ForEvents set all)) = bare Timeout
 reply_at_timer (Some (AtBarrier i)) = bare Timeout
 reply_at_timer (Some (ForPeriod i)) = bare Timeout
-reply_at_timer (Some (ForSemaphore i)) = bare Timeout
+reply_at_timer (Some (ForSemaphore i spins)) = bare Timeout

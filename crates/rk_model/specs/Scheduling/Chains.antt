@@ -50,7 +50,7 @@ owner_awaited semaphores (Some ForTime) = None
 owner_awaited semaphores (Some (ForEvents set all)) = None
 owner_awaited semaphores (Some (AtBarrier i)) = None
 owner_awaited semaphores (Some (ForPeriod i)) = None
-owner_awaited semaphores (Some (ForSemaphore i)) = (nth no_semaphore semaphores i).owner
+owner_awaited semaphores (Some (ForSemaphore i spins)) = (nth no_semaphore semaphores i).owner
 
 -- The thread on which a thread waits: the owner of the semaphore for which it waits, if there is one.
 abbrev pub waits_on : Plain → ℕ → Option ℕ

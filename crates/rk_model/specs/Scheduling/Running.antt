@@ -1,34 +1,23 @@
 -- What a processor runs, and whether it has a directive.
-use Rattle.std.specs.Prelude.{ℕ, zero, suc, ◌+◌, List, [], ◌∷◌, ◌++◌, Bool, false, ◌||◌, Option, Some, None, ◌==◌, is_none, if◌then◌else◌, length}
-use Rattle.std.specs.List.{slice_index_or}
+use Rattle.std.specs.Prelude.{ℕ, zero, suc, ◌+◌, Bool, false, ◌||◌, Option, Some, None, ◌==◌, is_none, if◌then◌else◌}
 use Rattle.rk_model.specs.declared.entry.View.{View}
 use Rattle.rk_model.specs.declared.entry.View.TheVariants.{Idle, Spins, Runs}
 use Rattle.rk_model.specs.declared.entry.Why.{Why}
 use Rattle.rk_model.specs.declared.entry.Why.TheVariants.{Idle as NoThread, Spins as ItSpins, Computes}
-use Rattle.rk_model.specs.State.{Plain, ClusterState, thread_at}
+use Rattle.rk_model.specs.State.{Plain, thread_at}
+use Rattle.rk_model.specs.Scheduling.Helping.{helped}
 use Rattle.rk_model.specs.Scheduling.Priorities.{spins}
+use Rattle.rk_model.specs.Scheduling.Seats.{cpu_count, cpu_at}
 
--- the threads of all processors, which are numbered through all clusters from 0
-abbrev pub all_cpus : List ClusterState → List (Option ℕ)
-all_cpus [] = []
-all_cpus (cluster ∷ clusters) = cluster.cpus ++ all_cpus clusters
+-- what a processor with this thread does, which helps the other, if it helps one
+abbrev pub view_of : Plain → Option ℕ → Option ℕ → View
+view_of k None other = Idle
+view_of k (Some t) None = if spins k t then Spins t else Runs t
+view_of k (Some t) (Some e) = Runs e
 
--- how many processors there are
-abbrev pub cpu_count : Plain → ℕ
-cpu_count k = length (all_cpus k.clusters)
-
--- the thread of a processor
-abbrev pub cpu_at : Plain → ℕ → Option ℕ
-cpu_at k p = slice_index_or (all_cpus k.clusters) p None
-
--- what a processor with this thread does
-abbrev pub view_of : Plain → Option ℕ → View
-view_of k None = Idle
-view_of k (Some t) = if spins k t then Spins t else Runs t
-
--- What a processor does: it is idle without a thread, it spins where its thread spins, and else it runs its thread.
+-- What a processor does: it is idle without a thread; it runs the thread that it helps, if it helps one; else it spins where its thread spins, and otherwise runs its thread.
 abbrev pub running : Plain → ℕ → View
-running k p = view_of k (cpu_at k p)
+running k p = view_of k (cpu_at k p) (helped k p)
 
 -- the thread that runs and whose next action is a directive or the return from one
 abbrev pub ready : Plain → View → Option ℕ

@@ -12,7 +12,7 @@ use Rattle.rk_model.specs.declared.scenario.Body.{Body}
 use Rattle.rk_model.specs.declared.scenario.Init.{Init}
 use Rattle.rk_model.specs.declared.scenario.Scenario.{Scenario}
 use Rattle.rk_model.specs.declared.scenario.ScenarioWhy.{ScenarioWhy}
-use Rattle.rk_model.specs.declared.scenario.ScenarioWhy.TheVariants.{Header, TooLarge, NotYetBuilt}
+use Rattle.rk_model.specs.declared.scenario.ScenarioWhy.TheVariants.{Header, Word, Number, Range, UnknownName, Repeated, TooMany, MissingEnd, NotAscii, TooLarge}
 use Rattle.rk_model.specs.declared.semaphore.SemKind.{SemKind}
 use Rattle.rk_model.specs.declared.semaphore.Protocol.{Protocol as ProtocolOf}
 use Rattle.rk_model.specs.declared.waiting.Order.{Order as OrderOf}
@@ -65,23 +65,28 @@ abbrev pub ◌>>=◌ : {A B : Type 0} → Result A ScenarioWhy → (A → Result
 
 -- a number from least to most
 abbrev pub within : ℕ → ℕ → Option ℕ → Result ℕ ScenarioWhy
-within least most None = Err NotYetBuilt
-within least most (Some n) = if nat_le least n && nat_le n most then Ok n else Err NotYetBuilt
+within least most None = Err Number
+within least most (Some n) = if nat_le least n && nat_le n most then Ok n else Err Range
 
 -- a number below another
 abbrev pub below : ℕ → Option ℕ → Result ℕ ScenarioWhy
-below count None = Err NotYetBuilt
-below count (Some n) = if nat_lt n count then Ok n else Err NotYetBuilt
+below count None = Err Number
+below count (Some n) = if nat_lt n count then Ok n else Err Range
 
 -- the name of a number where there is one
 abbrev pub named : Option ℕ → Result NameOf ScenarioWhy
-named None = Err NotYetBuilt
+named None = Err Word
 named (Some n) = Ok (record { bits = n })
 
 -- a number, or another value, where there is one
 abbrev pub given_value : {X : Type 0} → Option X → Result X ScenarioWhy
-given_value None = Err NotYetBuilt
+given_value None = Err Word
 given_value (Some n) = Ok n
+
+-- the number of a body where there is one of the name that a word is
+abbrev pub body_told : List ℕ → Option ℕ → Result ℕ ScenarioWhy
+body_told word None = if is_body_name word then Err UnknownName else Err Word
+body_told word (Some b) = Ok b
 
 -- the number from least to most that a word spells
 unfoldable pub number_operand : ℕ → ℕ → List ℕ → Result ℕ ScenarioWhy
@@ -124,12 +129,12 @@ address_operand word = id_by (var_of word) (given_operand word)
 
 -- the number of the body whose name the word is, of those that a line of a body may name
 unfoldable pub start_operand : Known → List ℕ → Result ℕ ScenarioWhy
-start_operand known word = given_value (body_known known.bodies known.own word)
+start_operand known word = body_told word (body_known known.bodies known.own word)
 
 -- the number of one of these earlier lines that isn't a goto
 abbrev pub led : List Op → Option ℕ → Result ℕ ScenarioWhy
-led earlier None = Err NotYetBuilt
-led earlier (Some n) = if is_target earlier n then Ok n else Err NotYetBuilt
+led earlier None = Err Number
+led earlier (Some n) = if is_target earlier n then Ok n else Err Range
 
 -- the number that a word spells of one of these earlier lines that isn't a goto
 unfoldable pub goto_operand : List Op → List ℕ → Result ℕ ScenarioWhy
@@ -141,13 +146,13 @@ name_operand word = named (name_of word)
 
 -- the number of the body of these whose name the word is
 unfoldable pub body_operand : List Body → List ℕ → Result ℕ ScenarioWhy
-body_operand bodies word = given_value (body_of bodies word)
+body_operand bodies word = body_told word (body_of bodies word)
 
 -- the second of two words, as true, or the first
 unfoldable pub either_operand : List ℕ → List ℕ → List ℕ → Result Bool ScenarioWhy
 either_operand first second word =
     if bytes_eq word second then Ok true
-    else (if bytes_eq word first then Ok false else Err NotYetBuilt)
+    else (if bytes_eq word first then Ok false else Err Word)
 
 -- a WISH: `nowait`, or a number of ticks
 unfoldable pub wish_operand : List ℕ → Result Wish ScenarioWhy
@@ -196,24 +201,24 @@ fits (o ∷ operands) (word ∷ words) = fits operands words
 -- what the values make that the words spell, from left to right
 abbrev pub made_of : Known → (operands : List Operand) → Makes operands → List (List ℕ) → Result Op ScenarioWhy
 made_of known [] made [] = Ok made
-made_of known [] made (word ∷ words) = Err NotYetBuilt
-made_of known (o ∷ operands) made [] = Err NotYetBuilt
+made_of known [] made (word ∷ words) = Err Word
+made_of known (o ∷ operands) made [] = Err Word
 made_of known (o ∷ operands) made (word ∷ words) = do
   value ← operand_of known o word
   made_of known operands (made value) words
 
 -- what a line of a form stands for, by the words behind its first
 unfoldable pub form_line : Known → Form → List (List ℕ) → Result Op ScenarioWhy
-form_line known (Row first operands made) words = if fits operands words then made_of known operands made words else Err NotYetBuilt
+form_line known (Row first operands made) words = if fits operands words then made_of known operands made words else Err Word
 
 -- what a line stands for of the form of this op, if there is one
 abbrev pub line_like : Known → Option Op → List (List ℕ) → Result Op ScenarioWhy
-line_like known None words = Err NotYetBuilt
+line_like known None words = Err Word
 line_like known (Some op) words = form_line known (form_of op) words
 
 -- what a line of a body stands for, which may refer to what is known there, by its words
 unfoldable pub op_line : Known → List (List ℕ) → Result Op ScenarioWhy
-op_line known [] = Err NotYetBuilt
+op_line known [] = Err Word
 op_line known (first ∷ words) = line_like known (form_in first) words
 
 -- ---- the lines of a scenario, each by the words behind its first: the draft after it
@@ -231,37 +236,37 @@ with_cluster d m = record d { phase = Clustered; scenario = record d.scenario { 
 
 -- `cluster M`
 unfoldable pub cluster_line : Draft → List (List ℕ) → Result Draft ScenarioWhy
-cluster_line d [] = Err NotYetBuilt
+cluster_line d [] = Err Word
 cluster_line d (count ∷ []) = do
   m ← number_operand 1 MOST_PROCESSORS count
-  if nat_lt (length d.scenario.clusters) MOST_CLUSTERS && nat_le (cpus_in d.scenario.clusters + m) MOST_PROCESSORS then Ok (with_cluster d m) else Err NotYetBuilt
-cluster_line d (count ∷ more ∷ words) = Err NotYetBuilt
+  if nat_lt (length d.scenario.clusters) MOST_CLUSTERS && nat_le (cpus_in d.scenario.clusters + m) MOST_PROCESSORS then Ok (with_cluster d m) else Err TooMany
+cluster_line d (count ∷ more ∷ words) = Err Word
 
 -- `ticks N`
 unfoldable pub ticks_line : Draft → List (List ℕ) → Result Draft ScenarioWhy
-ticks_line d [] = Err NotYetBuilt
+ticks_line d [] = Err Word
 ticks_line d (ticks ∷ []) = do
   n ← number_operand 0 MOST_TICKS ticks
   Ok (record d { phase = Timed; scenario = record d.scenario { horizon = n } })
-ticks_line d (ticks ∷ more ∷ words) = Err NotYetBuilt
+ticks_line d (ticks ∷ more ∷ words) = Err Word
 
 -- `limit N`
 unfoldable pub limit_line : Draft → List (List ℕ) → Result Draft ScenarioWhy
-limit_line d [] = Err NotYetBuilt
+limit_line d [] = Err Word
 limit_line d (number ∷ []) = do
   n ← number_operand 1 MOST_ENTRIES number
   Ok (record d { phase = Limited; scenario = record d.scenario { limit = n } })
-limit_line d (number ∷ more ∷ words) = Err NotYetBuilt
+limit_line d (number ∷ more ∷ words) = Err Word
 
 -- `body B`, with a name that no body has so far
 unfoldable pub body_line : Draft → List (List ℕ) → Result Draft ScenarioWhy
-body_line d [] = Err NotYetBuilt
+body_line d [] = Err Word
 body_line d (name ∷ []) =
-    if not (is_body_name name) then Err NotYetBuilt
-    else (if is_some (body_of d.scenario.bodies name) then Err NotYetBuilt
+    if not (is_body_name name) then Err Word
+    else (if is_some (body_of d.scenario.bodies name) then Err Repeated
     else (if nat_lt (length d.scenario.bodies) MOST_BODIES then Ok (record d { phase = InBody; body = record { name = name; lines = [] } })
-    else Err NotYetBuilt))
-body_line d (name ∷ more ∷ words) = Err NotYetBuilt
+    else Err TooMany))
+body_line d (name ∷ more ∷ words) = Err Word
 
 -- the words are `end`
 unfoldable pub is_end : List (List ℕ) → Bool
@@ -285,21 +290,21 @@ known_at s body = record { clusters = length s.clusters; bodies = s.bodies; own 
 unfoldable pub inner_line : Draft → List (List ℕ) → Result Draft ScenarioWhy
 inner_line d words = do
   op ← op_line (known_at d.scenario d.body) words
-  if nat_lt (length d.body.lines) MOST_LINES then Ok (with_op d op) else Err NotYetBuilt
+  if nat_lt (length d.body.lines) MOST_LINES then Ok (with_op d op) else Err TooMany
 
 -- what the words behind `init` stand for
 unfoldable pub init_operands : Scenario → List (List ℕ) → Result Init ScenarioWhy
-init_operands s [] = Err NotYetBuilt
-init_operands s (name ∷ []) = Err NotYetBuilt
-init_operands s (name ∷ cluster ∷ []) = Err NotYetBuilt
-init_operands s (name ∷ cluster ∷ priority ∷ []) = Err NotYetBuilt
+init_operands s [] = Err Word
+init_operands s (name ∷ []) = Err Word
+init_operands s (name ∷ cluster ∷ []) = Err Word
+init_operands s (name ∷ cluster ∷ priority ∷ []) = Err Word
 init_operands s (name ∷ cluster ∷ priority ∷ body ∷ []) = do
   called ← name_operand name
   c ← cluster_operand (length s.clusters) cluster
   p ← number_operand 1 LEAST_URGENT priority
   b ← body_operand s.bodies body
   Ok (record { name = called; cluster = c; prio = p; body = b })
-init_operands s (name ∷ cluster ∷ priority ∷ body ∷ more ∷ words) = Err NotYetBuilt
+init_operands s (name ∷ cluster ∷ priority ∷ body ∷ more ∷ words) = Err Word
 
 -- the draft with one init more
 abbrev pub with_init : Draft → Init → Draft
@@ -309,7 +314,7 @@ with_init d init = record d { phase = InInits; scenario = record d.scenario { in
 unfoldable pub init_line : Draft → List (List ℕ) → Result Draft ScenarioWhy
 init_line d operands = do
   init ← init_operands d.scenario operands
-  if nat_lt (length d.scenario.inits) MOST_OBJECTS then Ok (with_init d init) else Err NotYetBuilt
+  if nat_lt (length d.scenario.inits) MOST_OBJECTS then Ok (with_init d init) else Err TooMany
 
 -- ---- what may come at each phase: the draft after a line of these words
 
@@ -319,27 +324,27 @@ at_start d words = if is_header words then Ok (record d { phase = Headed }) else
 
 -- a cluster
 abbrev pub at_headed : Draft → List (List ℕ) → Result Draft ScenarioWhy
-at_headed d [] = Err NotYetBuilt
-at_headed d (first ∷ operands) = if bytes_eq first (codes "cluster") then cluster_line d operands else Err NotYetBuilt
+at_headed d [] = Err Word
+at_headed d (first ∷ operands) = if bytes_eq first (codes "cluster") then cluster_line d operands else Err Word
 
 -- the ticks, or another cluster
 abbrev pub at_clustered : Draft → List (List ℕ) → Result Draft ScenarioWhy
-at_clustered d [] = Err NotYetBuilt
+at_clustered d [] = Err Word
 at_clustered d (first ∷ operands) = if bytes_eq first (codes "ticks") then ticks_line d operands else at_headed d (first ∷ operands)
 
 -- an init
 abbrev pub at_inits : Draft → List (List ℕ) → Result Draft ScenarioWhy
-at_inits d [] = Err NotYetBuilt
-at_inits d (first ∷ operands) = if bytes_eq first (codes "init") then init_line d operands else Err NotYetBuilt
+at_inits d [] = Err Word
+at_inits d (first ∷ operands) = if bytes_eq first (codes "init") then init_line d operands else Err Word
 
 -- a body or an init
 abbrev pub at_limited : Draft → List (List ℕ) → Result Draft ScenarioWhy
-at_limited d [] = Err NotYetBuilt
+at_limited d [] = Err Word
 at_limited d (first ∷ operands) = if bytes_eq first (codes "body") then body_line d operands else at_inits d (first ∷ operands)
 
 -- the limit, a body or an init
 abbrev pub at_timed : Draft → List (List ℕ) → Result Draft ScenarioWhy
-at_timed d [] = Err NotYetBuilt
+at_timed d [] = Err Word
 at_timed d (first ∷ operands) = if bytes_eq first (codes "limit") then limit_line d operands else at_limited d (first ∷ operands)
 
 -- the end of the open body, or a line of it
@@ -362,7 +367,7 @@ after_words d words = if is_skipped words then Ok d else after_statement d.phase
 
 -- the draft after a line
 unfoldable pub after_line : Draft → List ℕ → Result Draft ScenarioWhy
-after_line d line = if is_plain line then after_words d (words_of line) else Err NotYetBuilt
+after_line d line = if is_plain line then after_words d (words_of line) else Err NotAscii
 
 -- ---- the lines of a text
 
@@ -379,11 +384,11 @@ pub data Verdict : Type 0 where
 -- what lines give that end at this phase, where the number n is that of the line that is wanting
 abbrev pub at_end : Phase → Scenario → ℕ → Verdict
 at_end Start s n = Faults (record { line = n; why = Header })
-at_end Headed s n = Faults (record { line = n; why = NotYetBuilt })
-at_end Clustered s n = Faults (record { line = n; why = NotYetBuilt })
+at_end Headed s n = Faults (record { line = n; why = MissingEnd })
+at_end Clustered s n = Faults (record { line = n; why = MissingEnd })
 at_end Timed s n = Reads s
 at_end Limited s n = Reads s
-at_end InBody s n = Faults (record { line = n; why = NotYetBuilt })
+at_end InBody s n = Faults (record { line = n; why = MissingEnd })
 at_end InInits s n = Reads s
 
 -- the verdict where the line of number n gave this draft or fault, and rest is the verdict on what follows

@@ -1,8 +1,7 @@
 -- The text of a history: its schedule. It is a list of lines, each of which is given here without its line feed.
-use Rattle.std.specs.Prelude.{ℕ, zero, suc, ◌+◌, ◌-◌, List, [], ◌∷◌, ◌++◌, map, filter, Bool, true, false, Option, Some, None, slice_get, codes, ◌==◌, if◌then◌else◌}
+use Rattle.std.specs.Prelude.{ℕ, zero, suc, ◌+◌, ◌-◌, List, [], ◌∷◌, ◌++◌, Bool, true, false, Option, Some, None, slice_get, codes, ◌==◌, if◌then◌else◌}
 use Rattle.std.specs.Fmt.{decimal, digits}
 use Rattle.rk_model.specs.declared.limits.TheConstants.{MOST_OBJECTS}
-use Rattle.rk_model.specs.declared.forms.TheConstants.{FORMS}
 use Rattle.rk_model.specs.declared.ids.Class.TheVariants.{Period}
 use Rattle.rk_model.specs.declared.period.Stats.{Stats}
 use Rattle.rk_model.specs.declared.scenario.Scenario.{Scenario}
@@ -16,7 +15,8 @@ use Rattle.rk_model.specs.declared.entry.What.{What}
 use Rattle.rk_model.specs.declared.entry.What.TheVariants.{Call, Return, Tick, End}
 use Rattle.rk_model.specs.Ids.{id_of}
 use Rattle.rk_model.specs.State.{Plain, op_at, period_at}
-use Rattle.rk_model.specs.Scheduling.Running.{running, cpu_count}
+use Rattle.rk_model.specs.Scheduling.Running.{running}
+use Rattle.rk_model.specs.Scheduling.Seats.{cpu_count}
 use Rattle.rk_model.specs.Directives.Lines.{kind_of, is_act}
 use Rattle.rk_model.specs.Histories.{opening, next_by, after, ends}
 use Rattle.rk_model.specs.Statistics.{statistics}
@@ -40,10 +40,6 @@ first_word (Some op) = word_of op
 -- whether the line of an op is a directive: each is, but for work and a goto
 abbrev pub is_directive : Op → Bool
 is_directive op = is_act (kind_of op)
-
--- The words of all directives: the exit's, and those of the forms in their order.
-unfoldable pub directive_words : List (List ℕ)
-directive_words = exit_word ∷ map word_of (filter is_directive FORMS.now)
 
 -- ---- the line of a directive
 
