@@ -11,7 +11,7 @@ use Rattle.rk_model.specs.declared.waiting.Wake.{Wake}
 use Rattle.rk_model.specs.Lists.{nth}
 use Rattle.rk_model.specs.State.{Plain, SemaphoreState, no_thread, no_semaphore}
 use Rattle.rk_model.specs.Directives.Objects.{has_begun}
-use Rattle.rk_model.specs.Directives.Waits.{object_of_wait}
+use Rattle.rk_model.specs.Directives.Waits.{Object}
 use Rattle.rk_model.specs.Scheduling.Chains.{owner_awaited, waits_on}
 use Rattle.rk_model.proofs.IndexLemmas.{nth-with_kept, nth-with_other}
 use Rattle.rk_parts.specs.declared.parts.ClusterPart.{ClusterPart}
@@ -24,7 +24,7 @@ use Rattle.rk_parts.specs.Lent.{AreLaid, Frame, NotesOwner}
 use Rattle.rk_parts.proofs.HoldingLemmas.{held_kept}
 use Rattle.rk_parts.proofs.PutLemmas.{clusters_joined}
 use Rattle.rk_directives.specs.Does.{AllLive, Becomes, Comes, KeepsHeld, KeepsOwners, Notes, lent_both}
-use Rattle.rk_directives.specs.HeldChains.{holder_awaited, waits_on_holder}
+use Rattle.rk_parts.specs.HeldChains.{holder_awaited, waits_on_holder}
 use Rattle.rk_directives.proofs.WaitChainLemmas.{owners_left}
 
 -- the semaphores are as before
@@ -32,8 +32,8 @@ pub same_owners : (groups groups' : List GroupPart) → semaphores_of groups' �
 same_owners groups groups' same = λ i. ap (λ (xs : List SemaphoreState). (nth no_semaphore xs i).owner) same
 
 -- a thread has left its queue
-pub left_owners : (groups groups' : List GroupPart) (t : ℕ) (wait : Option Wait) → Leaves groups t wait groups' → KeepsOwners groups groups'
-left_owners groups groups' t wait leaves = λ i. ap (λ (xs : List SemaphoreState). (nth no_semaphore xs i).owner) leaves.semaphores ∙ owners_left (semaphores_of groups) t (object_of_wait wait) i
+pub left_owners : (groups groups' : List GroupPart) (t : ℕ) (object : Option Object) → Leaves groups t object groups' → KeepsOwners groups groups'
+left_owners groups groups' t object leaves = λ i. ap (λ (xs : List SemaphoreState). (nth no_semaphore xs i).owner) leaves.semaphores ∙ owners_left (semaphores_of groups) t object i
 
 -- a semaphore was put that has the owner of the one before it
 pub put_owners : (groups groups' : List GroupPart) (i : ℕ) (x : SemaphoreState) → PutsSemaphore groups i x groups' → x.owner ≡ (semaphore_lent groups i).owner → KeepsOwners groups groups'
@@ -110,4 +110,4 @@ steps_by_holders parts groups held = λ n t. by (thread_lent parts t).wait n whe
   by (Some (ForEvents set all)) = refl
   by (Some (AtBarrier i)) = refl
   by (Some (ForPeriod i)) = refl
-  by (Some (ForSemaphore i)) = held i
+  by (Some (ForSemaphore i spins)) = held i

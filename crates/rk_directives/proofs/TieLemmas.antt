@@ -38,7 +38,7 @@ awaited (Some ForTime) object h = absurd (false≢true h)
 awaited (Some (ForEvents set all)) object h = absurd (false≢true h)
 awaited (Some (AtBarrier j)) object h = (ap (λ p. Some p) (same_object (OfBarrier j) object h), refl)
 awaited (Some (ForPeriod j)) object h = absurd (false≢true h)
-awaited (Some (ForSemaphore j)) object h = (ap (λ p. Some p) (same_object (OfSemaphore j) object h), refl)
+awaited (Some (ForSemaphore j spins)) object h = (ap (λ p. Some p) (same_object (OfSemaphore j) object h), refl)
 
 -- ---- threads that are put
 

@@ -114,7 +114,7 @@ owner_same semaphores now (Some ForTime) same = refl
 owner_same semaphores now (Some (ForEvents set all)) same = refl
 owner_same semaphores now (Some (AtBarrier i)) same = refl
 owner_same semaphores now (Some (ForPeriod i)) same = refl
-owner_same semaphores now (Some (ForSemaphore i)) same = same i
+owner_same semaphores now (Some (ForSemaphore i spins)) same = same i
 
 -- each semaphore has the owner that it had
 pub chained_owners : (semaphores now : List SemaphoreState) (threads : List Thread) (but : ℕ → Bool) → ((i : ℕ) → owner_at now i ≡ owner_at semaphores i) → AreChained semaphores threads but → AreChained now threads but
@@ -212,7 +212,7 @@ chained_handed semaphores threads but i h sem owned lives idle chained = record 
   awaited_is (Some (ForEvents set all)) = inl refl
   awaited_is (Some (AtBarrier j)) = inl refl
   awaited_is (Some (ForPeriod j)) = inl refl
-  awaited_is (Some (ForSemaphore j)) = owner_is j
+  awaited_is (Some (ForSemaphore j spins)) = owner_is j
 
   masked_at : {before after : Option ℕ} (b : Bool) → IsHanded before h after → IsHanded (cond b None before) h (cond b None after)
   masked_at true is = inl refl

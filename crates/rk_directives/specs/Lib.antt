@@ -3,4 +3,3 @@ pub mod Sound
 pub mod Does
 pub mod Calls
 pub mod Refusals
-pub mod HeldChains

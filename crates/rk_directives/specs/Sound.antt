@@ -18,7 +18,7 @@ use Rattle.rk_model.specs.Scheduling.Priorities.{is_started, is_eligible}
 use Rattle.rk_model.specs.Scheduling.Chains.{Ends, owner_awaited}
 use Rattle.rk_model.specs.Directives.Objects.{has_begun}
 use Rattle.rk_model.specs.Scheduling.ReadyQueues.{has_cpu}
-use Rattle.rk_model.specs.Scheduling.Running.{cpu_count}
+use Rattle.rk_model.specs.Scheduling.Seats.{cpu_count}
 use Rattle.rk_model.specs.Scheduling.Timers.{times_armed}
 use Rattle.rk_model.specs.Limits.{AreRunnable}
 use Rattle.rk_parts.specs.NamesAgree.{AreNamed}
@@ -43,7 +43,7 @@ may_time_out (Some ForTime) = true
 may_time_out (Some (ForEvents set all)) = true
 may_time_out (Some (AtBarrier i)) = true
 may_time_out (Some (ForPeriod i)) = false
-may_time_out (Some (ForSemaphore i)) = true
+may_time_out (Some (ForSemaphore i spins)) = true
 
 -- whether a thread is of this home and waits for what may have a limit
 abbrev pub waits_in : List Thread → ℕ → ℕ → Bool
@@ -123,7 +123,7 @@ is_asleep (Some ForTime) = true
 is_asleep (Some (ForEvents set all)) = false
 is_asleep (Some (AtBarrier i)) = false
 is_asleep (Some (ForPeriod i)) = false
-is_asleep (Some (ForSemaphore i)) = false
+is_asleep (Some (ForSemaphore i spins)) = false
 
 -- A thread stands in the queue of an object once where it waits for that object, and in no other queue.
 abbrev pub IsQueued : List BarrierState → List SemaphoreState → List Thread → ℕ → Type 0

@@ -25,7 +25,7 @@ awaits (Some ForTime) = None
 awaits (Some (ForEvents set all)) = None
 awaits (Some (AtBarrier i)) = None
 awaits (Some (ForPeriod i)) = Some i
-awaits (Some (ForSemaphore i)) = None
+awaits (Some (ForSemaphore i spins)) = None
 
 -- the ticks at which the timers of this one are due, in the order of arming
 abbrev pub dues_of : Armer → List Armed → List ℕ

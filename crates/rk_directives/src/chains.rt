@@ -6,27 +6,16 @@ ghost use Rattle.std.specs.Prelude.{◌≡◌, List, length};
 ghost use Rattle.rk_model.specs.Directives.Semaphores.{reaches_from};
 ghost use Rattle.rk_model.specs.Scheduling.Chains.{reaches};
 ghost use Rattle.rk_directives.specs.Does.{lent_both};
-ghost use Rattle.rk_directives.specs.HeldChains.{waits_on_holder};
+ghost use Rattle.rk_parts.specs.HeldChains.{waits_on_holder};
 ghost use Rattle.rk_groups.specs.declared.group.GroupPart.{GroupPart as GroupView};
 ghost use Rattle.rk_parts.specs.Holdings.{AreHeld, holdings};
 ghost use Rattle.rk_groups.specs.GroupObjects.{semaphores_of};
 ghost use Rattle.rk_parts.specs.Joined.{threads_of};
 
+use rk_model::ThreadIx;
 use rk_model::limits::MOST_OBJECTS;
-use rk_model::{ThreadIx, Wait};
-use rk_parts::holdings::holder;
-use rk_parts::lent::thread_of;
+use rk_parts::holdings::waits_on;
 use rk_parts::parts::ClusterPart;
-
-/// The thread on which a thread waits: the owner of the semaphore for which it waits, if there is one.
-fn waits_on(clusters: &[ClusterPart], thread: ThreadIx) -> Option<ThreadIx>
-    ensures { result ≡ waits_on_holder clusters.now thread }
-{
-    match thread_of(clusters, thread).wait {
-        Some(Wait::ForSemaphore(index)) => holder(clusters, index),
-        _ => None,
-    }
-}
 
 /// Whether the chain of a thread reaches another.
 fn reaches(clusters: &[ClusterPart], from: ThreadIx, to: ThreadIx) -> bool

@@ -56,7 +56,7 @@ fn seized_by(pending: u32, wait: Option<Wait>) -> Option<u32>
         Some(Wait::ForTime)
         | Some(Wait::AtBarrier(_))
         | Some(Wait::ForPeriod(_))
-        | Some(Wait::ForSemaphore(_))
+        | Some(Wait::ForSemaphore(_, _))
         | None => None,
     }
 }

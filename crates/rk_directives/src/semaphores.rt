@@ -27,7 +27,7 @@ use crate::objects::{bits_of, create, ident, remove};
 use crate::outcomes::{answered, done};
 use crate::waits::{caller_of, start_limited, wake_all};
 use rk_groups::group::GroupPart;
-use rk_groups::semaphores::{self, is_live, owner, waiter, wakes_of};
+use rk_groups::semaphores::{self, is_live, owner, spins, waiter, wakes_of};
 use rk_model::limits::MOST_OBJECTS;
 use rk_model::{
     Answer, Caller, Class, Id, Name, Order, Protocol, SemSpec, Status, Target, ThreadIx, Wait, Wish,
@@ -163,9 +163,15 @@ fn obtain_at(
     let by = caller_of(clusters, caller);
     let before = owner(groups, index);
     let closes = closes(clusters, owner(groups, index), caller, wish);
+    let spins = spins(groups, index);
     let reply = semaphores::obtain(groups, index, by, wish, closes);
     if let Status::Waits = reply.status {
-        start_limited(clusters, caller, Wait::ForSemaphore(index), limit_of(wish));
+        start_limited(
+            clusters,
+            caller,
+            Wait::ForSemaphore(index, spins),
+            limit_of(wish),
+        );
         Answer::Waiting
     } else {
         note(clusters, groups, index, &before);

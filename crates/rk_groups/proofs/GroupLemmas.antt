@@ -4,7 +4,7 @@ use Rattle.std.proofs.lemmas.Bool.{false≢true, cases_lt}
 use Rattle.std.proofs.lemmas.Bool.Decides.{nat_tests}
 use Rattle.std.proofs.lemmas.List.{get_or_past}
 use Rattle.std.specs.Prelude.{nat_le}
-use Rattle.rk_model.specs.declared.state.Wait.TheVariants.{AtBarrier}
+use Rattle.rk_model.specs.Directives.Waits.{OfBarrier}
 use Rattle.rk_model.specs.declared.status.Status.{Status}
 use Rattle.rk_model.specs.declared.status.Status.TheVariants.{Successful}
 use Rattle.rk_model.specs.declared.waiting.Caller.{Caller}
@@ -159,7 +159,7 @@ with_nth-still none xs (suc j) = by none xs j where
   by none (x ∷ xs) (suc j) = ap (λ us. x ∷ us) (by none xs j)
 
 -- a thread leaves a barrier at which it doesn't wait
-pub leaves_nothing : (groups : List GroupPart) (i t : ℕ) → has (barrier_lent groups i).arrivals t ≡ false → Leaves groups t (Some (AtBarrier i)) groups
+pub leaves_nothing : (groups : List GroupPart) (i t : ℕ) → has (barrier_lent groups i).arrivals t ≡ false → Leaves groups t (Some (OfBarrier i)) groups
 leaves_nothing groups i t absent =
     let still : left_by_thread t (barrier_lent groups i) ≡ barrier_lent groups i = ap (λ ts. (let next : BarrierState = record (barrier_lent groups i) { arrivals = ts } in next)) (without_absent t (barrier_lent groups i).arrivals absent) in
     record {
@@ -171,11 +171,11 @@ leaves_nothing groups i t absent =
     }
 
 -- of none where its group isn't lent,
-pub leaves_nowhere : (groups : List GroupPart) (i t : ℕ) → 1 ≤ i → i ≤ 64 → group_in groups i ≡ None → Leaves groups t (Some (AtBarrier i)) groups
+pub leaves_nowhere : (groups : List GroupPart) (i t : ℕ) → 1 ≤ i → i ≤ 64 → group_in groups i ≡ None → Leaves groups t (Some (OfBarrier i)) groups
 leaves_nowhere groups i t low high none = leaves_nothing groups i t (ap (λ (b : BarrierState). has b.arrivals t) (barrier_is_held groups i low high ∙ barrier_nowhere groups i none))
 
 -- of none where the index is none,
-pub leaves_outside : (groups : List GroupPart) (i t : ℕ) → (1 ≤ i → i ≤ 64 → ⊥) → Leaves groups t (Some (AtBarrier i)) groups
+pub leaves_outside : (groups : List GroupPart) (i t : ℕ) → (1 ≤ i → i ≤ 64 → ⊥) → Leaves groups t (Some (OfBarrier i)) groups
 leaves_outside groups zero t outside = leaves_nothing groups 0 t refl
 leaves_outside groups (suc j) t outside =
     leaves_nothing groups (suc j) t (ap (λ (b : BarrierState). has b.arrivals t) (get_or_past (barriers_of groups) j no_barrier (past_them (length_barriers groups))))
@@ -187,13 +187,13 @@ leaves_outside groups (suc j) t outside =
       by n is (inr more) = omega (arith, is, more)
 
 -- and of one that lives where it may or may not wait.
-pub leaves_found : (groups : List GroupPart) (at i t : ℕ) → 1 ≤ i → i ≤ 64 → group_in groups i ≡ Some at → IsStoreOf no_stored (group_at groups at).barriers → Leaves groups t (Some (AtBarrier i)) (set groups at (record (group_at groups at) { barriers = left_at (group_at groups at).barriers i t }))
+pub leaves_found : (groups : List GroupPart) (at i t : ℕ) → 1 ≤ i → i ≤ 64 → group_in groups i ≡ Some at → IsStoreOf no_stored (group_at groups at).barriers → Leaves groups t (Some (OfBarrier i)) (set groups at (record (group_at groups at) { barriers = left_at (group_at groups at).barriers i t }))
 leaves_found groups at i t low high found store = by (waits_in (stored_at no_stored (group_at groups at).barriers i).queue t) refl where
   is : barrier_lent groups i ≡ barrier_of (stored_at no_stored (group_at groups at).barriers i)
   is = barrier_is_held groups i low high ∙ barrier_found groups at i found
 
   by : (b : Bool) → waits_in (stored_at no_stored (group_at groups at).barriers i).queue t ≡ b →
-      Leaves groups t (Some (AtBarrier i)) (set groups at (record (group_at groups at) { barriers = cond b (put_at (group_at groups at).barriers i (without_waiter t (stored_at no_stored (group_at groups at).barriers i))) (group_at groups at).barriers }))
+      Leaves groups t (Some (OfBarrier i)) (set groups at (record (group_at groups at) { barriers = cond b (put_at (group_at groups at).barriers i (without_waiter t (stored_at no_stored (group_at groups at).barriers i))) (group_at groups at).barriers }))
   by true waits =
       let x = stored_at no_stored (group_at groups at).barriers i in
       let puts = puts_barrier groups at i (without_waiter t x) (group_at groups at).wakes low high found store in
@@ -206,7 +206,7 @@ leaves_found groups at i t low high found store = by (waits_in (stored_at no_sto
         kept = puts.kept;
       }
   by false absent =
-      subst (Leaves groups t (Some (AtBarrier i))) (sym (with_nth-still no_group groups (suc at)))
+      subst (Leaves groups t (Some (OfBarrier i))) (sym (with_nth-still no_group groups (suc at)))
       (leaves_nothing groups i t (ap (λ (b : BarrierState). has b.arrivals t) is ∙ absent))
 
 -- ---- as the code has them

@@ -3,7 +3,7 @@ use Rattle.std.proofs.Common.{◌≡◌, ℕ, zero, suc, add-one, ◌+◌, ◌<�
 use Rattle.std.specs.Option.{option_eq}
 use Rattle.std.proofs.lemmas.Bool.{false≢true, cases_lt}
 use Rattle.std.proofs.lemmas.List.{get_or_past}
-use Rattle.rk_model.specs.declared.state.Wait.TheVariants.{ForSemaphore}
+use Rattle.rk_model.specs.Directives.Waits.{OfSemaphore}
 use Rattle.rk_model.specs.declared.waiting.Waiter.{Waiter}
 use Rattle.rk_model.specs.declared.waiting.Wake.{Wake}
 use Rattle.rk_model.specs.Lists.{has, nth, times, with_nth}
@@ -148,7 +148,7 @@ left_still store i t same =
     sym (ap (λ (places : List SemaphoreState). (let st : Store SemaphoreState = record store { places = places } in st)) (ap (with_nth store.places i) same ∙ with_nth-still no_semaphore store.places i))
 
 -- and so is the state, where there is no semaphore;
-pub leaves_none : (groups : List GroupPart) (i t : ℕ) → semaphore_lent groups i ≡ no_semaphore → Leaves groups t (Some (ForSemaphore i)) groups
+pub leaves_none : (groups : List GroupPart) (i t : ℕ) → semaphore_lent groups i ≡ no_semaphore → Leaves groups t (Some (OfSemaphore i)) groups
 leaves_none groups i t none =
     record {
       barriers = refl;
@@ -160,7 +160,7 @@ leaves_none groups i t none =
 
 -- and a thread that leaves a semaphore of a group leaves it in the state.
 pub leaves_semaphore : (groups : List GroupPart) (at i t : ℕ) (group : GroupPart) (store : Store SemaphoreState) → 1 ≤ i → i ≤ 64 → Some at ≡ semaphores_in groups i → IsStoreOf no_semaphore (group_at groups at).semaphores → store ≡ left_semaphore (get_or groups at group).semaphores i t →
-    Leaves groups t (Some (ForSemaphore i)) (set groups at (record (get_or groups at group) { semaphores = store }))
+    Leaves groups t (Some (OfSemaphore i)) (set groups at (record (get_or groups at group) { semaphores = store }))
 leaves_semaphore groups at i t group store low high found is_store is =
     let puts = store_put groups at i group store _ _ low high found is_store is (ap (without_waiter t) (semaphore_stands groups at i group low high found)) in
     record {

@@ -2,14 +2,13 @@
 use Rattle.std.specs.Prelude.{ℕ, ◌+◌, ◌≡◌, List, [], ◌∷◌, ◌++◌, Bool, false, ◌||◌, ◌==◌, Option, Some, None, map, if◌then◌else◌}
 use Rattle.std.specs.List.{slice_index_or}
 use Rattle.rk_model.specs.declared.entry.Reply.{Reply}
-use Rattle.rk_model.specs.declared.state.Wait.{Wait}
 use Rattle.rk_model.specs.declared.status.Status.{Status}
 use Rattle.rk_model.specs.declared.status.Status.TheVariants.{Successful, Waits}
 use Rattle.rk_model.specs.declared.waiting.Wake.{Wake}
 use Rattle.rk_model.specs.Lists.{with_nth}
 use Rattle.rk_model.specs.State.{SemaphoreState, BarrierState, PartitionState, PeriodState, no_semaphore}
 use Rattle.rk_model.specs.Directives.Barriers.{is_full}
-use Rattle.rk_model.specs.Directives.Waits.{bare, object_of_wait, without_arrival, without_waiter, without_waiter_in}
+use Rattle.rk_model.specs.Directives.Waits.{Object, bare, without_arrival, without_waiter, without_waiter_in}
 use Rattle.rk_model.specs.Queues.{waits_in}
 use Rattle.rk_places.specs.Stores.{Store, group_of, stored_at, put_at}
 use Rattle.rk_signal.specs.Barriers.{Stored, no_stored, without_waiter as without_arriver}
@@ -122,10 +121,10 @@ pub record PutsSemaphore (old : List GroupPart) (i : ℕ) (semaphore : Semaphore
   pub periods : periods_of new ≡ periods_of old
   pub kept : group_frames new ≡ group_frames old
 
--- A thread has left the queue of what it waited for, and the groups keep their frame.
-pub record Leaves (old : List GroupPart) (t : ℕ) (wait : Option Wait) (new : List GroupPart) : Type 0 where
-  pub barriers : barriers_of new ≡ without_arrival (barriers_of old) t (object_of_wait wait)
-  pub semaphores : semaphores_of new ≡ without_waiter_in (semaphores_of old) t (object_of_wait wait)
+-- A thread has left the queue of an object, if it is one, and the groups keep their frame.
+pub record Leaves (old : List GroupPart) (t : ℕ) (object : Option Object) (new : List GroupPart) : Type 0 where
+  pub barriers : barriers_of new ≡ without_arrival (barriers_of old) t object
+  pub semaphores : semaphores_of new ≡ without_waiter_in (semaphores_of old) t object
   pub partitions : partitions_of new ≡ partitions_of old
   pub periods : periods_of new ≡ periods_of old
   pub kept : group_frames new ≡ group_frames old

@@ -4,7 +4,7 @@
 ghost use Rattle.std.specs.Prelude.{◌≡◌, ◌≢◌, ◌<◌, ◌≤◌, [], Some, IfSome, length, true, false};
 ghost use Rattle.rk_model.specs.declared.limits.TheConstants.{MOST_OBJECTS};
 ghost use Rattle.rk_model.specs.declared.status.Status.TheVariants.{Successful, ObjectWasDeleted};
-ghost use Rattle.rk_model.specs.declared.state.Wait.TheVariants.{AtBarrier};
+ghost use Rattle.rk_model.specs.Directives.Waits.{OfBarrier};
 ghost use Rattle.rk_model.specs.Lists.{has};
 ghost use Rattle.rk_model.specs.State.{no_barrier};
 ghost use Rattle.rk_model.specs.Directives.Barriers.{new_barrier};
@@ -151,7 +151,7 @@ fn leave_in(barriers: &mut BarrierStore, index: u16, thread: ThreadIx)
 
 /// Takes a thread out of a barrier, where it waits there.
 pub(crate) fn leave_barrier(groups: &mut [GroupPart], index: u16, thread: ThreadIx)
-    ensures { Leaves groups.old thread (Some (AtBarrier index)) groups.new }
+    ensures { Leaves groups.old thread (Some (OfBarrier index)) groups.new }
 {
     if index < 1 || index as usize > MOST_OBJECTS {
         return;

@@ -3,7 +3,7 @@
 
 ghost use Rattle.std.specs.Prelude.{◌≡◌, ◌<◌, ◌≤◌, [], IfSome, Some, length, slice_get, true, false};
 ghost use Rattle.rk_model.specs.declared.limits.TheConstants.{MOST_OBJECTS};
-ghost use Rattle.rk_model.specs.declared.state.Wait.TheVariants.{ForSemaphore};
+ghost use Rattle.rk_model.specs.Directives.Waits.{OfSemaphore};
 ghost use Rattle.rk_model.specs.declared.status.Status.TheVariants.{Successful};
 ghost use Rattle.rk_model.specs.Directives.Semaphores.{has_obtained, is_mrsp, judged, new_semaphore, flushed, after_deleting, with_prio_of};
 ghost use Rattle.rk_model.specs.Directives.Waits.{bare};
@@ -82,6 +82,18 @@ pub fn order(groups: &[GroupPart], index: u16) -> Order
     match place_of(groups, index) {
         Some(at) => groups[at].semaphores.order(index),
         None => Order::Fifo,
+    }
+}
+
+/// Whether those that wait for a semaphore spin: it is a MrsP one.
+pub fn spins(groups: &[GroupPart], index: u16) -> bool
+    requires low { 1 ≤ index }
+    requires high { index ≤ MOST_OBJECTS }
+    ensures { result ≡ is_mrsp (semaphore_lent groups.now index).protocol }
+{
+    match place_of(groups, index) {
+        Some(at) => groups[at].semaphores.spins(index),
+        None => false,
     }
 }
 
@@ -249,7 +261,7 @@ fn leave_in(semaphores: &mut SemStore, index: u16, thread: ThreadIx)
 
 /// Takes a thread out of the queue of a semaphore, where it waits there.
 pub(crate) fn leave_semaphore(groups: &mut [GroupPart], index: u16, thread: ThreadIx)
-    ensures { Leaves groups.old thread (Some (ForSemaphore index)) groups.new }
+    ensures { Leaves groups.old thread (Some (OfSemaphore index)) groups.new }
 {
     if index < 1 || index as usize > MOST_OBJECTS {
         return;

@@ -1,9 +1,10 @@
--- A processor's thread is eligible, and one that has a directive waits for nothing.
+-- A processor's thread is eligible; one that runs waits for nothing; and one that has a directive acts.
 use Rattle.std.proofs.Common.{◌≡◌, ℕ, zero, suc, ◌+◌, ◌<◌, ◌≤◌, List, [], ◌∷◌, ◌++◌, Bool, true, false, cond, not, ◌&&◌, ◌||◌, ◌==◌, ⊎_elim, Option, Some, None, length, get_or, arith, refl, ap, subst, sym, ◌∙◌}
 use Rattle.std.specs.List.{range_with_len}
 use Rattle.std.proofs.lemmas.Bool.{false≢true}
 use Rattle.std.proofs.lemmas.Bool.Decides.{nat_tests}
-use Rattle.rk_model.specs.declared.entry.View.TheVariants.{Spins, Runs}
+use Rattle.rk_model.specs.declared.entry.View.{View}
+use Rattle.rk_model.specs.declared.entry.View.TheVariants.{Idle, Spins, Runs}
 use Rattle.rk_model.specs.declared.state.Life.{Life}
 use Rattle.rk_model.specs.declared.state.Life.TheVariants.{Absent, Dormant, Started, Ended}
 use Rattle.rk_model.specs.declared.state.Wait.{Wait}
@@ -11,11 +12,16 @@ use Rattle.rk_model.specs.Lists.{times}
 use Rattle.rk_model.specs.State.{Plain, ClusterState, thread_at}
 use Rattle.rk_model.specs.Scheduling.Priorities.{is_started, is_no_wait, spins, is_eligible}
 use Rattle.rk_model.specs.Scheduling.ReadyQueues.{has_cpu}
-use Rattle.rk_model.specs.Scheduling.Running.{all_cpus, cpu_at, view_of, ready, caller}
+use Rattle.rk_model.specs.Directives.Objects.{has_begun}
+use Rattle.rk_model.specs.Scheduling.Helping.{could_run}
+use Rattle.rk_model.specs.Scheduling.Running.{running, ready, caller}
+use Rattle.rk_model.specs.Scheduling.Seats.{all_cpus, cpu_at}
 use Rattle.rk_directives.specs.Calls.{IsActing}
 use Rattle.rk_directives.specs.Sound.{stands, own, AllSound, IsSound}
 use Rattle.rk_model.proofs.BooleanLemmas.{equal_test, and_front, and_back, either, or_front, or_back}
 use Rattle.rk_model.proofs.CountLemmas.{times-filter, times-has, times_range}
+use Rattle.rk_parts.proofs.PutLemmas.{lives_within}
+use Rattle.rk_kernel.proofs.RunsLemmas.{RunsOwn, RunsOther, runs_says}
 
 -- what a processor of a list has
 at_cpu : (cpus : List (Option ℕ)) (p t : ℕ) → get_or cpus p None ≡ Some t → has_cpu cpus t ≡ true
@@ -73,63 +79,85 @@ started_life Dormant h = absurd (false≢true h)
 started_life Started h = refl
 started_life Ended h = absurd (false≢true h)
 
-no_wait : (wait : Option Wait) (spinning : Bool) → spinning ≡ false → (is_no_wait wait || spinning) ≡ true → wait ≡ None
-no_wait None spinning not h = refl
-no_wait (Some w) spinning not h = absurd (false≢true (sym not ∙ h))
+no_wait : (wait : Option Wait) → is_no_wait wait ≡ true → wait ≡ None
+no_wait None h = refl
+no_wait (Some w) h = absurd (false≢true h)
 
-left_by : (u t : ℕ) (b : Bool) → cond b (Some u) None ≡ Some t → u ≡ t
-left_by u t true h = cc
-left_by u t false h = cc
+apart_wait : (wait : Option Wait) (spinning : Bool) → spinning ≡ false → (is_no_wait wait || spinning) ≡ true → wait ≡ None
+apart_wait None spinning not h = refl
+apart_wait (Some w) spinning not h = absurd (false≢true (sym not ∙ h))
 
-ready_by : (k : Plain) (u t : ℕ) (b : Bool) → spins k u ≡ b → ready k (cond b (Spins u) (Runs u)) ≡ Some t → (u ≡ t) × (spins k u ≡ false)
-ready_by k u t true is h = let no : ⊥ = cc in absurd no
-ready_by k u t false is h = (left_by u t ((thread_at k u).left == 0) h, is)
+-- ---- who runs, on its own processor or on one that helps it
 
--- a thread that has a directive is the processor's, and doesn't spin
-ready_view : (k : Plain) (o : Option ℕ) (t : ℕ) → ready k (view_of k o) ≡ Some t → (o ≡ Some t) × (spins k t ≡ false)
-ready_view k None t h = let no : ⊥ = cc in absurd no
-ready_view k (Some u) t h =
-    let r = ready_by k u t (spins k u) refl h in
-    (ap (λ (v : ℕ). Some v) r.0, subst (λ (v : ℕ). spins k v ≡ false) r.0 r.1)
+-- a thread that could run is eligible,
+pub could_eligible : (k : Plain) (t : ℕ) → could_run k t ≡ true → is_eligible k t ≡ true
+unfolding could_run
+could_eligible k t h = and_front (is_eligible k t) (is_no_wait (thread_at k t).wait) h
 
-pub caller_started : (k : Plain) (p t : ℕ) → IsSound k → caller k p ≡ Some t → (thread_at k t).life ≡ Started
+-- and waits for nothing
+pub could_waits_not : (k : Plain) (t : ℕ) → could_run k t ≡ true → (thread_at k t).wait ≡ None
+unfolding could_run
+could_waits_not k t h = no_wait (thread_at k t).wait (and_back (is_eligible k t) (is_no_wait (thread_at k t).wait) h)
+
+waits_apart : (k : Plain) (t : ℕ) → is_eligible k t ≡ true → spins k t ≡ false → (thread_at k t).wait ≡ None
 unfolding is_eligible
-caller_started k p t sound h =
+waits_apart k t e apart =
     let thread = thread_at k t in
-    let e = seated_eligible k p t sound (ready_view k (cpu_at k p) t h).0 in
+    apart_wait thread.wait (spins k t) apart (and_back (is_started thread.life && not thread.suspended) (is_no_wait thread.wait || spins k t) e)
+
+-- A thread that runs is eligible,
+pub runs_eligible : (k : Plain) (p t : ℕ) → IsSound k → running k p ≡ Runs t → is_eligible k t ≡ true
+runs_eligible k p t sound h = ⊎_elim (λ (own : RunsOwn k p t). seated_eligible k p t sound own.has) (λ (other : RunsOther k p t). could_eligible k t other.offer.ready) (runs_says k p t h)
+
+-- waits for nothing,
+pub runs_waits_not : (k : Plain) (p t : ℕ) → IsSound k → running k p ≡ Runs t → (thread_at k t).wait ≡ None
+runs_waits_not k p t sound h =
+    ⊎_elim (λ (own : RunsOwn k p t). waits_apart k t (seated_eligible k p t sound own.has) own.spins_not) (λ (other : RunsOther k p t). could_waits_not k t other.offer.ready) (runs_says k p t h)
+
+-- is started,
+pub runs_started : (k : Plain) (p t : ℕ) → IsSound k → running k p ≡ Runs t → (thread_at k t).life ≡ Started
+unfolding is_eligible
+runs_started k p t sound h =
+    let thread = thread_at k t in
     started_life thread.life
     (and_front (is_started thread.life) (not thread.suspended)
-    (and_front (is_started thread.life && not thread.suspended) (is_no_wait thread.wait || spins k t) e))
+    (and_front (is_started thread.life && not thread.suspended) (is_no_wait thread.wait || spins k t) (runs_eligible k p t sound h)))
 
-pub caller_waits_not : (k : Plain) (p t : ℕ) → IsSound k → caller k p ≡ Some t → (thread_at k t).wait ≡ None
-unfolding is_eligible
-caller_waits_not k p t sound h =
-    let thread = thread_at k t in
-    let r = ready_view k (cpu_at k p) t h in
-    let e = seated_eligible k p t sound r.0 in
-    no_wait thread.wait (spins k t) r.1 (and_back (is_started thread.life && not thread.suspended) (is_no_wait thread.wait || spins k t) e)
+-- and is one of the 64.
+pub runs_within : (k : Plain) (p t : ℕ) → IsSound k → running k p ≡ Runs t → (0 < t) × (t ≤ 64)
+runs_within k p t sound h =
+    let seat = lives_within k.threads t (ap has_begun (runs_started k p t sound h)) in
+    let high : t ≤ 64 = omega (arith, seat.1, sound.places) in
+    (seat.0, high)
 
-pub caller_within : (k : Plain) (p t : ℕ) → IsSound k → caller k p ≡ Some t → (0 < t) × (t ≤ 64)
-caller_within k p t sound h = seated_within k p t sound (ready_view k (cpu_at k p) t h).0
+-- ---- who has a directive
 
-left_zero : (k : Plain) (u t : ℕ) (b : Bool) → ((thread_at k u).left == 0) ≡ b → cond b (Some u) None ≡ Some t → (thread_at k t).left ≡ 0
-left_zero k u t true e h = let same : u ≡ t = cc in subst (λ (v : ℕ). (thread_at k v).left ≡ 0) same (grind (arith, nat_tests, e))
-left_zero k u t false e h = let no : ⊥ = cc in absurd no
+-- A thread that has a directive runs, and has no work left.
+pub record HasTurn (k : Plain) (p t : ℕ) : Type 0 where
+  pub runs : running k p ≡ Runs t
+  pub works_not : (thread_at k t).left ≡ 0
 
-ready_left : (k : Plain) (u t : ℕ) (b : Bool) → ready k (cond b (Spins u) (Runs u)) ≡ Some t → (thread_at k t).left ≡ 0
-ready_left k u t true h = let no : ⊥ = cc in absurd no
-ready_left k u t false h = left_zero k u t ((thread_at k u).left == 0) refl h
+pub caller_turn : (k : Plain) (p t : ℕ) → caller k p ≡ Some t → HasTurn k p t
+caller_turn k p t h = by (running k p) refl h where
+  left : (u : ℕ) (b : Bool) → ((thread_at k u).left == 0) ≡ b → running k p ≡ Runs u → cond b (Some u) None ≡ Some t → HasTurn k p t
+  left u true e runs h =
+      let same : u ≡ t = cc in
+      let none : (thread_at k u).left ≡ 0 = grind (arith, nat_tests, e) in
+      record { runs = runs ∙ ap (λ v. Runs v) same; works_not = subst (λ v. (thread_at k v).left ≡ 0) same none }
+  left u false e runs h = let no : ⊥ = cc in absurd no
 
-viewed_left : (k : Plain) (o : Option ℕ) (t : ℕ) → ready k (view_of k o) ≡ Some t → (thread_at k t).left ≡ 0
-viewed_left k None t h = let no : ⊥ = cc in absurd no
-viewed_left k (Some u) t h = ready_left k u t (spins k u) h
+  by : (view : View) → running k p ≡ view → ready k view ≡ Some t → HasTurn k p t
+  by Idle is h = let no : ⊥ = cc in absurd no
+  by (Spins u) is h = let no : ⊥ = cc in absurd no
+  by (Runs u) is h = left u ((thread_at k u).left == 0) refl is h
 
 -- It has no work left.
 pub caller_works_not : (k : Plain) (p t : ℕ) → caller k p ≡ Some t → (thread_at k t).left ≡ 0
-caller_works_not k p t h = viewed_left k (cpu_at k p) t h
+caller_works_not k p t h = (caller_turn k p t h).works_not
 
--- It acts.
+-- It acts, be it on a processor of its own cluster or on one that helps it.
 pub acting_of : (k : Plain) (p t : ℕ) → IsSound k → caller k p ≡ Some t → IsActing k t
 acting_of k p t sound h =
-    let w = caller_within k p t sound h in
-    record { sound = sound; low = w.0; high = w.1; started = caller_started k p t sound h; waits_not = caller_waits_not k p t sound h; works_not = caller_works_not k p t h }
+    let turn = caller_turn k p t h in
+    let w = runs_within k p t sound turn.runs in
+    record { sound = sound; low = w.0; high = w.1; started = runs_started k p t sound turn.runs; waits_not = runs_waits_not k p t sound turn.runs; works_not = turn.works_not }

@@ -1,33 +1,38 @@
 -- Work that is charged, processor by processor.
-use Rattle.std.proofs.Common.{◌≡◌, ℕ, zero, suc, ◌+◌, ◌<◌, ◌≤◌, List, [], ◌∷◌, Bool, true, false, cond, ◌==◌, ◌||◌, ◌&&◌, not, Option, Some, None, length, get_or, arith, refl, ap, subst, sym, ◌∙◌}
+use Rattle.std.proofs.Common.{◌≡◌, ℕ, zero, suc, ◌+◌, ◌<◌, ◌≤◌, List, [], ◌∷◌, Bool, true, false, cond, ◌==◌, ◌||◌, Option, Some, None, length, get_or, arith, refl, ap, subst, sym, ◌∙◌}
 use Rattle.std.proofs.lemmas.Bool.{false≢true}
 use Rattle.std.proofs.lemmas.Bool.Decides.{nat_tests}
 use Rattle.std.proofs.lemmas.List.{ext_get_or}
 use Rattle.rk_model.specs.declared.scenario.Scenario.{Scenario}
 use Rattle.rk_model.specs.declared.entry.View.{View}
 use Rattle.rk_model.specs.declared.entry.View.TheVariants.{Idle, Spins, Runs}
-use Rattle.rk_model.specs.declared.state.Life.{Life}
-use Rattle.rk_model.specs.declared.state.Life.TheVariants.{Absent, Dormant, Started, Ended}
 use Rattle.rk_model.specs.declared.state.Thread.{Thread}
 use Rattle.rk_model.specs.Lists.{nth, with_nth}
-use Rattle.rk_model.specs.State.{Plain, no_thread, thread_at}
-use Rattle.rk_model.specs.Scheduling.Priorities.{spins_in, spins, is_started, is_no_wait, is_eligible}
-use Rattle.rk_model.specs.Scheduling.Running.{cpu_at, cpu_count, view_of, running, is_run_of, runs_from, runs_somewhere}
+use Rattle.rk_model.specs.State.{Plain, SemaphoreState, no_thread, no_semaphore, thread_at}
+use Rattle.rk_model.specs.Scheduling.Chains.{owner_awaited}
+use Rattle.rk_model.specs.Scheduling.Helping.{Scene, helped_in, scene, helped, could_run}
+use Rattle.rk_model.specs.Scheduling.Priorities.{is_spinning, spins, is_eligible}
+use Rattle.rk_model.specs.Scheduling.Running.{view_of, running, is_run_of, runs_from, runs_somewhere}
+use Rattle.rk_model.specs.Scheduling.Seats.{cpu_at, cpu_count}
 use Rattle.rk_model.specs.Directives.Objects.{has_begun}
 use Rattle.rk_model.specs.Scheduling.Ticks.{charged, ticked, charge_from}
-use Rattle.rk_model.proofs.BooleanLemmas.{and_front}
 use Rattle.rk_model.proofs.IndexLemmas.{nth-with_other, nth-with_same, length-with_nth}
 use Rattle.rk_parts.specs.Threads.{own_standing}
 use Rattle.rk_parts.specs.declared.parts.AllParts.{AllParts}
-use Rattle.rk_parts.specs.Holdings.{holdings}
+use Rattle.rk_groups.specs.GroupObjects.{semaphores_of}
+use Rattle.rk_parts.specs.Holdings.{AreHeld, holdings}
+use Rattle.rk_parts.specs.Hosted.{could_run as could_run_by, scene_lent, AreHosted, ShowRunning}
+use Rattle.rk_parts.specs.Whole.{AreWhole}
+use Rattle.rk_parts.proofs.HoldingLemmas.{held_kept}
+use Rattle.rk_parts.proofs.HostedLemmas.{scene_joined, hosted_kept}
 use Rattle.rk_parts.specs.Joined.{plain_of, threads_of, thread_lent}
 use Rattle.rk_parts.specs.Lent.{AreLaid, Frame, frame, layouts}
 use Rattle.rk_parts.specs.Noted.{AreNoted}
 use Rattle.rk_directives.specs.Does.{Untouched, untouched}
 use Rattle.rk_kernel.specs.Manned.{RunOnce}
 use Rattle.rk_directives.specs.Sound.{IsSound}
-use Rattle.rk_kernel.proofs.CallerLemmas.{seated_eligible}
-use Rattle.rk_kernel.proofs.TickLemmas.{spins_alike, charged_steady, length-charge_from}
+use Rattle.rk_kernel.proofs.CallerLemmas.{runs_started}
+use Rattle.rk_kernel.proofs.TickLemmas.{charged_steady, length-charge_from}
 
 -- a thread that is charged stands as before
 pub stands_charged : (s : Scenario) (thread : Thread) → own_standing (charged s thread) ≡ own_standing thread
@@ -99,23 +104,55 @@ none_before k p u once runs (suc n) few =
     by false false e h = refl
 
 -- what a processor does doesn't depend on what was charged
-wait_charged : (k : Plain) (p t : ℕ) → (charged_by k p t).wait ≡ (thread_at k t).wait
-wait_charged k p t = by (runs_from k t 0 p) where
-  by : (b : Bool) → (cond b (charged k.scenario (thread_at k t)) (thread_at k t)).wait ≡ (thread_at k t).wait
-  by true = charged_steady (λ (x : Thread). x.wait) k.scenario (thread_at k t) (λ _ _ _ _. refl)
+steady_charged : {Y : Type 0} (f : Thread → Y) (k : Plain) (p t : ℕ) → ((x : Thread) (line left computed : ℕ) → f (record x { line = line; left = left; computed = computed }) ≡ f x) → f (charged_by k p t) ≡ f (thread_at k t)
+steady_charged f k p t steady = by (runs_from k t 0 p) where
+  by : (b : Bool) → f (cond b (charged k.scenario (thread_at k t)) (thread_at k t)) ≡ f (thread_at k t)
+  by true = charged_steady f k.scenario (thread_at k t) steady
   by false = refl
 
-view_charged : (k n : Plain) (o : Option ℕ) → ((t : ℕ) → (thread_at n t).wait ≡ (thread_at k t).wait) → view_of n o ≡ view_of k o
-view_charged k n None same = refl
-view_charged k n (Some t) same =
-    let spun : spins n t ≡ spins k t = ap (spins_in n) (same t) ∙ spins_alike k n (thread_at k t).wait in
-    ap (λ b. cond b (Spins t) (Runs t)) spun
+-- whether a thread could run, by what stands at its place
+could_run_there : (k : Plain) (t : ℕ) → could_run k t ≡ could_run_by (thread_at k t)
+unfolding could_run is_eligible
+could_run_there k t = refl
+
+-- who helps whom is the same where each thread is as before, but for its line, its work left and its count
+scene_charged : (k : Plain) (ts : List Thread) → length ts ≡ length k.threads → ((t : ℕ) → (nth no_thread ts t).wait ≡ (thread_at k t).wait) → ((t : ℕ) → could_run_by (nth no_thread ts t) ≡ could_run_by (thread_at k t)) →
+    scene (let n : Plain = record k { threads = ts } in n) ≡ scene k
+scene_charged k ts size waits could =
+    let n : Plain = record k { threads = ts } in
+    let ready : (t : ℕ) → could_run n t ≡ could_run k t = λ t. could_run_there n t ∙ could t ∙ sym (could_run_there k t) in
+    λ i. record { threads = size i; on = λ t. owner_awaited k.semaphores (waits t i); spins = λ t. is_spinning (waits t i); ready = λ t. ready t i; cpu = cpu_at k }
+
+view_charged : (k n : Plain) (o other : Option ℕ) → ((t : ℕ) → spins n t ≡ spins k t) → view_of n o other ≡ view_of k o other
+view_charged k n None other same = refl
+view_charged k n (Some t) None same = ap (λ b. cond b (Spins t) (Runs t)) (same t)
+view_charged k n (Some t) (Some e) same = refl
+
+scene_by_charged : (k : Plain) (p : ℕ) (all old : AllParts) → IsCharged k p all old → scene (plain_of all) ≡ scene k
+scene_by_charged k p all old is =
+    ap scene is.rest
+    ∙ scene_charged k (threads_of all.clusters) is.places
+    (λ t. ap (λ (x : Thread). x.wait) (is.threads t) ∙ steady_charged (λ (x : Thread). x.wait) k p t (λ _ _ _ _. refl))
+    (λ t. ap could_run_by (is.threads t) ∙ steady_charged could_run_by k p t (λ _ _ _ _. refl))
 
 running_charged : (k : Plain) (p : ℕ) (all old : AllParts) (q : ℕ) → IsCharged k p all old → running (plain_of all) q ≡ running k q
 running_charged k p all old q is =
-    let n : Plain = record k { threads = threads_of all.clusters } in
-    ap (λ (m : Plain). running m q) is.rest
-    ∙ view_charged k n (cpu_at k q) (λ t. ap (λ (x : Thread). x.wait) (is.threads t) ∙ wait_charged k p t)
+    ap (λ (m : Plain). view_of m (cpu_at m q) (helped (plain_of all) q)) is.rest
+    ∙ view_charged k (let n : Plain = record k { threads = threads_of all.clusters } in n) (cpu_at k q) (helped (plain_of all) q)
+    (λ t. ap (λ (x : Thread). is_spinning x.wait) (is.threads t) ∙ steady_charged (λ (x : Thread). is_spinning x.wait) k p t (λ _ _ _ _. refl))
+    ∙ ap (λ (x : Scene). view_of k (cpu_at k q) (helped_in x q)) (scene_by_charged k p all old is)
+
+-- The parts still show what processors do.
+pub show_charged : (k : Plain) (p : ℕ) (all old : AllParts) → k ≡ plain_of old → AreWhole old → AreHosted old.clusters → IsCharged k p all old → ShowRunning all.scenario all.groups all.clusters
+show_charged k p all old state whole hosted is =
+    let laid = laid_charged k p all old whole.laid is in
+    let kept : semaphores_of all.groups ≡ semaphores_of old.groups = ap (λ (n : Plain). n.semaphores) (is.rest ∙ ap (λ (m : Plain). (let n : Plain = record m { threads = threads_of all.clusters } in n)) state) in
+    let held : AreHeld (holdings all.clusters) (semaphores_of all.groups) = held_kept (holdings old.clusters) (holdings all.clusters) (semaphores_of old.groups) (semaphores_of all.groups) is.held (λ i. ap (λ (xs : List SemaphoreState). (nth no_semaphore xs i).owner) kept) whole.held in
+    let same : scene_lent all.clusters ≡ scene_lent old.clusters =
+    scene_joined all.scenario all.table.names all.groups all.clusters laid held
+    ∙ scene_by_charged k p all old is ∙ ap scene state
+    ∙ sym (scene_joined old.scenario old.table.names old.groups old.clusters whole.laid whole.held) in
+    record { laid = laid; held = held; hosted = hosted_kept old.clusters all.clusters same (ap (λ (f : Frame). f.stored) is.kept) hosted }
 
 -- the thread of one processor more is charged, where the processor runs one
 pub one_charged : (k : Plain) (p u : ℕ) (all next old : AllParts) (thread : Thread) → RunOnce k → length k.threads ≡ 64 → IsCharged k p all old → Runs u ≡ running (plain_of all) p → 1 ≤ u → u ≤ 64 → thread ≡ charged all.scenario (nth no_thread (threads_of all.clusters) u) →
@@ -197,26 +234,8 @@ uncharged k p u all old once is does =
     let runs : running k p ≡ Runs u = sym (running_charged k p all old p is) ∙ sym does in
     is.threads u ∙ ap (λ b. cond b (charged k.scenario (thread_at k u)) (thread_at k u)) (none_before k p u once runs p (omega arith))
 
--- what a processor has that runs a thread
-viewed_run : (k : Plain) (o : Option ℕ) (u : ℕ) → view_of k o ≡ Runs u → o ≡ Some u
-viewed_run k None u h = let no : ⊥ = cc in absurd no
-viewed_run k (Some t) u h = by (spins k t) h where
-  by : (b : Bool) → cond b (Spins t) (Runs t) ≡ Runs u → Some t ≡ Some u
-  by true h = let no : ⊥ = cc in absurd no
-  by false h = let same : t ≡ u = cc in ap (λ (v : ℕ). Some v) same
-
-begun_started : (life : Life) → is_started life ≡ true → has_begun life ≡ true
-begun_started Absent h = absurd (false≢true h)
-begun_started Dormant h = refl
-begun_started Started h = refl
-begun_started Ended h = refl
-
 runner_lives : (k : Plain) (p u : ℕ) → IsSound k → running k p ≡ Runs u → has_begun (thread_at k u).life ≡ true
-unfolding is_eligible
-runner_lives k p u sound runs =
-    let thread = thread_at k u in
-    let stands = seated_eligible k p u sound (viewed_run k (cpu_at k p) u runs) in
-    begun_started thread.life (and_front (is_started thread.life) (not thread.suspended) (and_front (is_started thread.life && not thread.suspended) (is_no_wait thread.wait || spins k u) stands))
+runner_lives k p u sound runs = ap has_begun (runs_started k p u sound runs)
 
 -- and lives.
 pub charged_lives : (k : Plain) (p u : ℕ) (all old : AllParts) → IsSound k → RunOnce k → IsCharged k p all old → Runs u ≡ running (plain_of all) p → has_begun (thread_lent all.clusters u).life ≡ true

@@ -48,7 +48,8 @@ use Rattle.rk_parts.proofs.PutLemmas.{lives_within}
 use Rattle.rk_directives.proofs.KeptHoldingLemmas.{still_held}
 use Rattle.rk_period.specs.Periods.{Fits}
 use Rattle.rk_kernel.proofs.SoundSettlingLemmas.{timers-settled_from}
-use Rattle.rk_kernel.proofs.PartsSettledLemmas.{part_found, count_clusters, whole_kept, AreSettled, settled}
+use Rattle.rk_parts.proofs.HostedLemmas.{hosted_kept, scene_stored}
+use Rattle.rk_kernel.proofs.PartsSettledLemmas.{part_found, count_clusters, whole_kept, HostsAll, as_settled, AreSettled, settled}
 use Rattle.rk_directives.proofs.TimerLemmas.{timers_of}
 
 no_due : (tick : ℕ) (timers : List Armed) → due_at tick timers ≡ [] → without_due tick timers ≡ timers
@@ -129,7 +130,7 @@ awaits_none (Some ForTime) h = refl
 awaits_none (Some (ForEvents set all)) h = refl
 awaits_none (Some (AtBarrier i)) h = refl
 awaits_none (Some (ForPeriod i)) h = absurd (false≢true h)
-awaits_none (Some (ForSemaphore i)) h = refl
+awaits_none (Some (ForSemaphore i spins)) h = refl
 
 -- a timer of a thread that fires leaves periods alone
 pub keeps_expired : (k : Plain) (c t : ℕ) (xs : List Armed) (x : Armed) → IsSound k → c < length k.clusters → due_now k c ≡ x ∷ xs → x.who ≡ OfThread t → KeepsPeriods k (expire k c (OfThread t))
@@ -322,16 +323,17 @@ ready_same all new ready same kept held = record {
   whole = whole_kept all (record all { clusters = new }) ready.whole (ap (λ (n : Plain). n.present) same) kept held refl refl;
   sound = subst IsSound (sym same) ready.sound;
   noted = noted_same all.scenario.clusters all.clusters new (length all.scenario.clusters) ready.whole.laid kept (ap (λ (n : Plain). n.threads) same) ready.noted;
+  hosted = hosted_kept all.clusters new (scene_stored all.clusters new (ap (λ (n : Plain). n.threads) same) held (ap (λ (f : Frame). f.stored) kept)) (ap (λ (f : Frame). f.stored) kept) ready.hosted;
 }
 
 -- The first timer that is due has fired in all parts, and they have settled.
-pub fired : (all : AllParts) (taken after new : List ClusterPart) (groups : List GroupPart) (c : ℕ) (x : Armed) → IsReady all → c < length all.scenario.clusters → Some x ≡ head_of (due_now (plain_of all) c) → TakesDue all.clusters c taken → BecomesBoth all.scenario (λ k. rung k x.who) taken all.groups after groups → map bare new ≡ map (settled_part []) after →
+pub fired : (all : AllParts) (taken after new : List ClusterPart) (groups : List GroupPart) (c : ℕ) (x : Armed) → IsReady all → c < length all.scenario.clusters → Some x ≡ head_of (due_now (plain_of all) c) → TakesDue all.clusters c taken → BecomesBoth all.scenario (λ k. rung k x.who) taken all.groups after groups → map bare new ≡ map (settled_part []) after → HostsAll new →
     AreSettled all (record all { clusters = new; groups = groups }) (expire (plain_of all) c x.who) []
-fired all taken after new groups c x ready known some takes rings done =
+fired all taken after new groups c x ready known some takes rings done hosts =
     let k = plain_of all in
     let mid : AllParts = record all { clusters = after; groups = groups } in
     let laid : AreLaid all.scenario.clusters (layouts taken) = subst (AreLaid all.scenario.clusters) (sym (ap (λ (f : Frame). f.layouts) takes.kept)) ready.whole.laid in
-    settled all mid new (expire k c x.who) [] ready
+    settled all mid new (expire k c x.who) [] (as_settled all ready)
     (record {
       settles = expire_settles k c (rest_of (due_now k c)) x ready.sound (within_clusters all c known) (head_some (due_now k c) x some);
       state = expired k (plain_of (record all { clusters = taken })) (plain_of mid) c x (takes.state all.scenario all.table.names all.groups known) (rings.state all.table.names laid);
@@ -340,7 +342,7 @@ fired all taken after new groups c x ready known some takes rings done =
       held = rings.held (still_held all.clusters taken all.groups all.groups takes.held (λ i. refl) ready.whole.held);
       rest = λ i. record { scenario = all.scenario; groups = rings.framed i; time = all.table.present };
     })
-    done
+    done hosts
 
 -- ---- how many are due
 

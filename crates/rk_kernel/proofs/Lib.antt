@@ -1,5 +1,6 @@
 pub mod ReadyQueueLemmas
 pub mod SoundSettlingLemmas
+pub mod RunsLemmas
 pub mod CallerLemmas
 pub mod InitNamesLemmas
 pub mod OpeningLemmas
@@ -12,12 +13,14 @@ pub mod PeriodEndLemmas
 pub mod FiringLemmas
 pub mod RunLowestLemmas
 pub mod HistoryLemmas
+pub mod ReachedLemmas
 pub mod EndedJobLemmas
 pub mod StatisticsLaws
 pub mod ReadyQueueLaws
 pub mod SeatLemmas
 pub mod UrgencyLaws
 pub mod RunnerLaws
+pub mod HelpingLaws
 pub mod ActionLaws
 pub mod StillSettlingLemmas
 pub mod RefusalLaws

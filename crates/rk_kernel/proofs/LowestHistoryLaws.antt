@@ -5,7 +5,8 @@ use Rattle.rk_model.specs.declared.scenario.Scenario.{Scenario}
 use Rattle.rk_model.specs.declared.entry.Entry.{Entry}
 use Rattle.rk_model.specs.declared.entry.What.TheVariants.{Tick, End}
 use Rattle.rk_model.specs.State.{Plain}
-use Rattle.rk_model.specs.Scheduling.Running.{cpu_count, caller, first_of, least_from, least}
+use Rattle.rk_model.specs.Scheduling.Running.{caller, first_of, least_from, least}
+use Rattle.rk_model.specs.Scheduling.Seats.{cpu_count}
 use Rattle.rk_model.specs.Scheduling.Ticks.{tick}
 use Rattle.rk_model.specs.Steps.{Act, act, act_of, clock_at, clock_entry}
 use Rattle.rk_model.specs.Histories.{opening, is_end, ends, turn, lowest_on, lowest_from, lowest}

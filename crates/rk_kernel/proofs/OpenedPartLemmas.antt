@@ -15,11 +15,11 @@ use Rattle.rk_parts.specs.Lent.{number_in, AreLaid, layouts, stored}
 use Rattle.rk_parts.specs.Noted.{AreNoted, settled_part, bare}
 use Rattle.rk_parts.specs.Whole.{AreWhole}
 use Rattle.rk_parts.proofs.WholeLemmas.{lent_whole}
-use Rattle.rk_kernel.specs.Ready.{IsReady}
+use Rattle.rk_kernel.specs.Ready.{IsSettled, IsReady}
 use Rattle.rk_directives.specs.Sound.{IsSound, CanSettle}
 use Rattle.rk_kernel.proofs.OpeningLemmas.{sound_vacant, started_settles}
 use Rattle.rk_directives.proofs.KeptHoldingLemmas.{still_held}
-use Rattle.rk_kernel.proofs.PartsSettledLemmas.{IsChanged, settled}
+use Rattle.rk_kernel.proofs.PartsSettledLemmas.{HostsAll, IsChanged, settled}
 
 -- All parts of the state in which there is no task yet.
 pub record StandVacant (s : Scenario) (all : AllParts) : Type 0 where
@@ -38,8 +38,8 @@ lent_vacant s all c within stand known =
     let less = subst (λ (t : Scenario). c < length t.clusters) same known in
     subst IsSome (sym (lent_whole all c stand.whole few less)) refl
 
--- and they are ready for a step.
-ready_vacant : (s : Scenario) (all : AllParts) → IsWithinLimits s → StandVacant s all → IsReady all
+-- and they are settled.
+ready_vacant : (s : Scenario) (all : AllParts) → IsWithinLimits s → StandVacant s all → IsSettled all
 ready_vacant s all within stand = record {
   whole = stand.whole;
   sound = subst IsSound (sym stand.vacant) (sound_vacant s within);
@@ -75,8 +75,8 @@ pub record AreOpened (s : Scenario) (all : AllParts) : Type 0 where
   pub ready : IsReady all
 
 -- and settled for the opening state.
-pub opened : (s : Scenario) (all : AllParts) (parts new : List ClusterPart) (names : Table) → IsWithinLimits s → StandVacant s all → HaveBegun s all parts names → map bare new ≡ map (settled_part []) parts → AreOpened s (with_parts all new names)
-opened s all parts new names within stand begin done =
+pub opened : (s : Scenario) (all : AllParts) (parts new : List ClusterPart) (names : Table) → IsWithinLimits s → StandVacant s all → HaveBegun s all parts names → map bare new ≡ map (settled_part []) parts → HostsAll new → AreOpened s (with_parts all new names)
+opened s all parts new names within stand begin done hosts =
     let changed : IsChanged all (with_parts all parts names) (started s) = record {
       settles = subst (λ (k : Plain). CanSettle k (started s)) (sym stand.vacant) (started_settles s within);
       state = plain_begun s all parts names stand begin;
@@ -85,7 +85,7 @@ opened s all parts new names within stand begin done =
       held = still_held all.clusters parts all.groups all.groups begin.held (λ i. refl) stand.whole.held;
       rest = refl;
     } in
-    let is = settled all (with_parts all parts names) new (started s) [] (ready_vacant s all within stand) changed done in
+    let is = settled all (with_parts all parts names) new (started s) [] (ready_vacant s all within stand) changed done hosts in
     record {
       opening = is.state ∙ ap (λ (k : Plain). settle k (started s) []) stand.vacant;
       ready = is.ready;

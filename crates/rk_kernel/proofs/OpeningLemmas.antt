@@ -17,7 +17,7 @@ use Rattle.rk_model.specs.State.{Plain, SemaphoreState, BarrierState, ClusterSta
 use Rattle.rk_model.specs.Directives.Waits.{OfBarrier, OfSemaphore, object_of_wait, is_for}
 use Rattle.rk_model.specs.Scheduling.Priorities.{is_eligible}
 use Rattle.rk_model.specs.Scheduling.ReadyQueues.{has_cpu}
-use Rattle.rk_model.specs.Scheduling.Running.{all_cpus}
+use Rattle.rk_model.specs.Scheduling.Seats.{all_cpus}
 use Rattle.rk_model.specs.Histories.{begun, places, free_cluster, vacant, started, opening}
 use Rattle.rk_model.specs.Text.Scenarios.{cpus_in}
 use Rattle.rk_model.specs.Limits.{IsWithinLimits}

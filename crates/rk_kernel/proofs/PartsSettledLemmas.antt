@@ -15,18 +15,36 @@ use Rattle.rk_parts.specs.Lent.{number_in, AreLaid, layouts, Stored, stored_in, 
 use Rattle.rk_parts.specs.Noted.{settled_part, bare}
 use Rattle.rk_parts.specs.Whole.{AreWhole, ticks_of}
 use Rattle.rk_groups.specs.Groups.{group_frames}
-use Rattle.rk_model.specs.Scheduling.Running.{cpu_count, caller}
+use Rattle.rk_model.specs.Scheduling.Running.{caller}
+use Rattle.rk_model.specs.Scheduling.Seats.{cpu_count}
 use Rattle.rk_model.specs.Text.Scenarios.{cpus_in}
-use Rattle.rk_parts.proofs.LentSeatLemmas.{cpu_count_joined}
+use Rattle.rk_parts.specs.Hosted.{AreHosted, ShowRunning}
+use Rattle.rk_parts.specs.Seats.{seat_in}
+use Rattle.rk_parts.proofs.LentSeatLemmas.{cpu_count_joined, seats_end}
 use Rattle.rk_parts.proofs.PutLemmas.{length_clusters}
 use Rattle.rk_parts.proofs.SettledPartLemmas.{same_stored}
 use Rattle.rk_parts.proofs.WholeLemmas.{Keeps, lent_whole, ticks_framed, semaphores_framed, barriers_framed, partitions_framed, periods_framed, whole_settled, plain_settled, all_noted_settled}
 use Rattle.rk_directives.specs.Does.{Untouched, untouched}
 use Rattle.rk_directives.proofs.KeptHoldingLemmas.{same_owners, still_held}
-use Rattle.rk_kernel.specs.Ready.{IsReady}
+use Rattle.rk_kernel.specs.Ready.{IsSettled, IsReady}
 use Rattle.rk_directives.specs.Sound.{IsSound, CanSettle}
 use Rattle.rk_kernel.proofs.ReadyQueueLemmas.{sound_lines}
 use Rattle.rk_kernel.proofs.SoundSettlingLemmas.{sound_settled}
+
+-- what is ready for a step has settled
+pub as_settled : (all : AllParts) → IsReady all → IsSettled all
+as_settled all ready = record { whole = ready.whole; sound = ready.sound; noted = ready.noted }
+
+-- and shows what processors do
+pub shows : (all : AllParts) → IsReady all → ShowRunning all.scenario all.groups all.clusters
+shows all ready = record { laid = ready.whole.laid; held = ready.whole.held; hosted = ready.hosted }
+
+few_settled : (all : AllParts) → IsSettled all → length all.scenario.clusters ≤ 4
+few_settled all is = let size = length_clusters all.scenario.clusters all.clusters in omega (arith, is.sound.few_clusters, size)
+
+-- The parts note whom their processors help, where there are no more than eight of them.
+abbrev pub HostsAll : List ClusterPart → Type 0
+HostsAll parts = ((p : ℕ) → 8 ≤ p → seat_in parts p ≡ None) → AreHosted parts
 
 -- there are at most four clusters
 pub few_clusters : (all : AllParts) → IsReady all → length all.scenario.clusters ≤ 4
@@ -99,20 +117,23 @@ pub record AreSettled (before after : AllParts) (next : Plain) (last : List ℕ)
   pub state : plain_of after ≡ settle (plain_of before) next last
   pub ready : IsReady after
 
--- Settled parts stand for the settled state, and are ready for the next step.
-pub settled : (before mid : AllParts) (new : List ClusterPart) (next : Plain) (last : List ℕ) → IsReady before → IsChanged before mid next → map bare new ≡ map (settled_part last) mid.clusters → AreSettled before (record mid { clusters = new }) next last
-settled before mid new next last ready is done =
+-- Settled parts stand for the settled state, and are ready for the next step where it is noted whom processors help.
+pub settled : (before mid : AllParts) (new : List ClusterPart) (next : Plain) (last : List ℕ) → IsSettled before → IsChanged before mid next → map bare new ≡ map (settled_part last) mid.clusters → HostsAll new → AreSettled before (record mid { clusters = new }) next last
+settled before mid new next last ready is done hosts =
     let k = plain_of before in
-    let few = few_clusters before ready in
+    let few = few_settled before ready in
     let keep = keeps before mid next is in
     let lines = sound_lines k ready.sound in
     let state : plain_of (record mid { clusters = new }) ≡ settle k next last =
     plain_settled before mid new last ready.whole ready.noted lines few keep done ∙ ap (λ (n : Plain). settle k n last) is.state in
+    let whole = whole_settled before mid new last ready.whole keep done in
+    let sound : IsSound (plain_of (record mid { clusters = new })) = subst IsSound (sym state) (sound_settled k next last ready.sound is.settles) in
     record {
       state = state;
       ready = record {
-        whole = whole_settled before mid new last ready.whole keep done;
-        sound = subst IsSound (sym state) (sound_settled k next last ready.sound is.settles);
+        whole = whole;
+        sound = sound;
         noted = all_noted_settled before mid new last ready.whole ready.noted lines few keep done;
+        hosted = hosts (λ p high. seats_end mid.scenario.clusters new p whole.laid (omega (arith, high, sound.few_cpus, cpu_count_joined mid.scenario mid.table.names mid.groups new whole.laid)));
       };
     }

@@ -198,7 +198,7 @@ waits_for_end (Some ForTime) i is = let no : ⊥ = cc in absurd no
 waits_for_end (Some (ForEvents set all)) i is = let no : ⊥ = cc in absurd no
 waits_for_end (Some (AtBarrier j)) i is = let no : ⊥ = cc in absurd no
 waits_for_end (Some (ForPeriod j)) i is = (refl, refl)
-waits_for_end (Some (ForSemaphore j)) i is = let no : ⊥ = cc in absurd no
+waits_for_end (Some (ForSemaphore j spins)) i is = let no : ⊥ = cc in absurd no
 
 -- a thread that waits for a period has no timer
 unarmed : (k : Plain) (c t i : ℕ) → IsSound k → c < length k.clusters → awaits (thread_at k t).wait ≡ Some i → times_armed (OfThread t) (cluster_at k c).timers ≡ 0

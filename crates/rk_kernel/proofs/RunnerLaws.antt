@@ -1,17 +1,19 @@
 -- The processors of each cluster have its runners, each on one.
-use Rattle.std.proofs.Common.{◌≡◌, ℕ, zero, suc, ◌+◌, ◌<◌, ◌≤◌, List, [], ◌∷◌, ◌++◌, Bool, true, false, cond, ◌==◌, ◌&&◌, nat_lt, Option, None, Some, length, map, replicate, get_or, arith, refl, sym, ap, subst, ◌∙◌}
+use Rattle.std.proofs.Common.{◌≡◌, ℕ, zero, suc, ◌+◌, ◌<◌, ◌≤◌, List, [], ◌∷◌, ◌++◌, Bool, true, false, cond, ◌==◌, ◌&&◌, nat_lt, ⊎_elim, Option, None, Some, length, map, replicate, get_or, arith, refl, sym, ap, subst, ◌∙◌}
 use Rattle.std.specs.List.{slice_index_or}
+use Rattle.std.proofs.lemmas.Bool.{cases_lt}
 use Rattle.std.proofs.lemmas.Bool.Decides.{nat_tests}
+use Rattle.std.proofs.lemmas.List.{get_or_past}
 use Rattle.rk_model.specs.declared.scenario.Scenario.{Scenario}
 use Rattle.rk_model.specs.declared.entry.Entry.{Entry}
-use Rattle.rk_model.specs.declared.entry.View.TheVariants.{Spins, Runs}
 use Rattle.rk_model.specs.declared.state.Thread.{Thread}
 use Rattle.rk_model.specs.Lists.{times}
 use Rattle.rk_model.specs.State.{Plain, ClusterState, no_cluster, thread_at, cluster_at}
-use Rattle.rk_model.specs.Scheduling.Priorities.{is_eligible, spins, prio, or_least_urgent, urgency, standings}
+use Rattle.rk_model.specs.Scheduling.Priorities.{is_eligible, prio, or_least_urgent, urgency, standings}
 use Rattle.rk_model.specs.Scheduling.ReadyQueues.{most_urgent, assigned}
 use Rattle.rk_model.specs.Scheduling.Settling.{shifts, shifted}
-use Rattle.rk_model.specs.Scheduling.Running.{all_cpus, cpu_at, view_of}
+use Rattle.rk_model.specs.Scheduling.Helping.{scene, is_seated}
+use Rattle.rk_model.specs.Scheduling.Seats.{all_cpus, cpu_at}
 use Rattle.rk_model.specs.Scheduling.Ticks.{pass}
 use Rattle.rk_model.specs.Steps.{Act, act}
 use Rattle.rk_model.specs.Limits.{IsWithinLimits}
@@ -24,6 +26,8 @@ use Rattle.rk_directives.specs.Sound.{stands, own, AllSound, IsClusterSound, IsS
 use Rattle.rk_kernel.specs.Manned.{HasRunners, AllManned, AreManned, RunOnce}
 use Rattle.rk_kernel.specs.SchedulingLaws.{seats, ProcessorsHaveTheRunners, NoneRunsTwice}
 use Rattle.rk_kernel.proofs.ReadyQueueLemmas.{own_once, line_moved, sound_at}
+use Rattle.rk_model.proofs.HelpingLemmas.{helped_once, not_seated}
+use Rattle.rk_kernel.proofs.RunsLemmas.{RunsOwn, RunsOther, runs_says}
 use Rattle.rk_kernel.proofs.TickLemmas.{passed_steady}
 use Rattle.rk_kernel.proofs.SeatLemmas.{seats_assigned}
 use Rattle.rk_kernel.proofs.UrgencyLaws.{none_urgent, most_few, times-most_urgent}
@@ -93,7 +97,7 @@ manned_act k q a sound manned did = (kept_act AreManned kept_manned k q a (sound
 pub manned_after : (s : Scenario) (xs : List Entry) → IsScenario s → IsSound (after s xs) × AreManned (after s xs)
 manned_after s xs is = kept_after AreManned kept_manned s xs is (manned_free (urgency (vacant s)) 0 s.clusters)
 
-manned_from : (key : ℕ → ℕ → ℕ) (c i : ℕ) (clusters : List ClusterState) → i < length clusters → AllManned key c clusters → HasRunners (key (c + i)) (slice_index_or clusters i no_cluster)
+pub manned_from : (key : ℕ → ℕ → ℕ) (c i : ℕ) (clusters : List ClusterState) → i < length clusters → AllManned key c clusters → HasRunners (key (c + i)) (slice_index_or clusters i no_cluster)
 manned_from key c i [] within manned = absurd (never i within) where
   never : (i : ℕ) → i < 0 → ⊥
   never i h = omega (arith, h)
@@ -115,7 +119,7 @@ processors_manned s xs is legal c within =
       manned = rw e at (manned_from (urgency k) 0 c k.clusters within both.1);
     }
 
-seats-append : (t : ℕ) (xs ys : List (Option ℕ)) → seats t (xs ++ ys) ≡ seats t xs + seats t ys
+pub seats-append : (t : ℕ) (xs ys : List (Option ℕ)) → seats t (xs ++ ys) ≡ seats t xs + seats t ys
 seats-append t [] ys = omega arith
 seats-append t (None ∷ xs) ys = seats-append t xs ys
 seats-append t (Some u ∷ xs) ys = omega (arith, seats-append t xs ys)
@@ -138,7 +142,7 @@ few_seats k t c (cluster ∷ clusters) sound manned =
     let here = stands_home k c t (seats t cluster.cpus) (omega (arith, manned.0 t, runs_once k (urgency k c) c (length cluster.cpus) cluster.line sound.0.line t)) in
     omega (arith, seats-append t cluster.cpus (all_cpus clusters), here_or_behind (thread_at k t).home c (seats t cluster.cpus) (seats t (all_cpus clusters)) here (few_seats k t (c + 1) clusters sound.1 manned.1))
 
-some_seat : (t p : ℕ) (cpus : List (Option ℕ)) → get_or cpus p None ≡ Some t → 0 < seats t cpus
+pub some_seat : (t p : ℕ) (cpus : List (Option ℕ)) → get_or cpus p None ≡ Some t → 0 < seats t cpus
 some_seat t p [] e = let no : ⊥ = cc in absurd no
 some_seat t zero (None ∷ cpus) e = let no : ⊥ = cc in absurd no
 some_seat t zero (Some u ∷ cpus) e = let same : u ≡ t = cc in grind (arith, nat_tests, same)
@@ -171,18 +175,18 @@ seated_once k p q t sound manned e f =
       one true h = omega (arith, h)
       one false h = h
 
-runs_by : (u t : ℕ) (b : Bool) → cond b (Spins u) (Runs u) ≡ Runs t → Some u ≡ Some t
-runs_by u t true e = let no : ⊥ = cc in absurd no
-runs_by u t false e = let same : u ≡ t = cc in ap (λ (v : ℕ). Some v) same
+-- who is helped is on no processor
+helped_unseated : (k : Plain) (p q t : ℕ) → IsSound k → RunsOther k p t → cpu_at k q ≡ Some t → ⊥
+unfolding is_seated
+helped_unseated k p q t sound other has = ⊎_elim (λ low. not_seated (scene k) t 8 q other.offer.apart low has) (λ high. (let none : cpu_at k q ≡ None = get_or_past (all_cpus k.clusters) q None (omega (arith, sound.few_cpus, high)) in let no : None ≡ Some t = sym none ∙ has in let f : ⊥ = cc in f)) (cases_lt q 8)
 
--- a thread that runs is the processor's
-runs_seated : (k : Plain) (o : Option ℕ) (t : ℕ) → view_of k o ≡ Runs t → o ≡ Some t
-runs_seated k None t e = let no : ⊥ = cc in absurd no
-runs_seated k (Some u) t e = runs_by u t (spins k u) e
-
--- No thread runs on two processors.
+-- No thread runs on two processors: neither on two that have it, nor on two that help it, nor on one of each.
 pub run_once : (k : Plain) → IsSound k → AreManned k → RunOnce k
-run_once k sound manned p q t e f = seated_once k p q t sound manned (runs_seated k (cpu_at k p) t e) (runs_seated k (cpu_at k q) t f)
+run_once k sound manned p q t e f =
+    ⊎_elim
+    (λ (own : RunsOwn k p t). ⊎_elim (λ (mine : RunsOwn k q t). seated_once k p q t sound manned own.has mine.has) (λ (other : RunsOther k q t). absurd (helped_unseated k q p t sound other own.has)) (runs_says k q t f))
+    (λ (other : RunsOther k p t). ⊎_elim (λ (mine : RunsOwn k q t). absurd (helped_unseated k p q t sound other mine.has)) (λ (more : RunsOther k q t). helped_once (scene k) p q t other.helps more.helps) (runs_says k q t f))
+    (runs_says k p t e)
 
 pub none_twice : NoneRunsTwice
 none_twice s xs is legal = let both = manned_after s xs is in run_once (after s xs) both.0 both.1

@@ -10,7 +10,7 @@ use Rattle.rk_model.specs.Scheduling.Timers.{times_armed}
 use Rattle.rk_model.specs.Scheduling.Priorities.{is_eligible, urgency, standings}
 use Rattle.rk_model.specs.Scheduling.ReadyQueues.{most_urgent}
 use Rattle.rk_model.specs.Scheduling.Settling.{shifts, shifted, settle}
-use Rattle.rk_model.specs.Scheduling.Running.{all_cpus, cpu_count}
+use Rattle.rk_model.specs.Scheduling.Seats.{all_cpus, cpu_count}
 use Rattle.rk_model.proofs.AssignmentLemmas.{assigned_has, length-assigned}
 use Rattle.rk_parts.specs.Settled.{settled_cluster, settled_from}
 use Rattle.rk_parts.proofs.SettlingLemmas.{settle_each}

@@ -6,11 +6,9 @@ use Rattle.std.proofs.lemmas.List.Elements.{filter_agree, All-from_recursion, re
 use Rattle.rk_model.specs.declared.scenario.Scenario.{Scenario}
 use Rattle.rk_model.specs.declared.entry.What.TheVariants.{Tick, End}
 use Rattle.rk_model.specs.declared.state.Thread.{Thread}
-use Rattle.rk_model.specs.declared.state.Wait.{Wait}
-use Rattle.rk_model.specs.declared.state.Wait.TheVariants.{ForTime, ForEvents, AtBarrier, ForPeriod, ForSemaphore}
 use Rattle.rk_model.specs.Lists.{times}
 use Rattle.rk_model.specs.State.{Plain, ClusterState, PeriodState, objects_of, no_thread, thread_at, period_at, cluster_at}
-use Rattle.rk_model.specs.Scheduling.Priorities.{is_eligible, is_started, is_no_wait, spins_in}
+use Rattle.rk_model.specs.Scheduling.Priorities.{is_eligible, is_started, is_no_wait, is_spinning}
 use Rattle.rk_model.specs.Directives.Objects.{has_begun}
 use Rattle.rk_model.specs.Directives.Waits.{object_of_wait, is_for}
 use Rattle.rk_model.specs.Scheduling.Chains.{owner_awaited}
@@ -56,20 +54,9 @@ pub length-charge_from : (k : Plain) (t : ℕ) (ts : List Thread) → length (ch
 length-charge_from k t [] = refl
 length-charge_from k t (x ∷ xs) = omega (arith, length-charge_from k (t + 1) xs)
 
-pub spins_alike : (k n : Plain) (wait : Option Wait) → spins_in n wait ≡ spins_in k wait
-spins_alike k n None = refl
-spins_alike k n (Some ForTime) = refl
-spins_alike k n (Some (ForEvents set all)) = refl
-spins_alike k n (Some (AtBarrier i)) = refl
-spins_alike k n (Some (ForPeriod i)) = refl
-spins_alike k n (Some (ForSemaphore i)) = refl
-
 eligible-pass : (k : Plain) (t : ℕ) → is_eligible (pass k) t ≡ is_eligible k t
 unfolding is_eligible
-eligible-pass k t =
-    let n = pass k in
-    ap (λ b. is_started (thread_at n t).life && not (thread_at n t).suspended && (is_no_wait (thread_at n t).wait || b)) (spins_alike k n (thread_at n t).wait)
-    ∙ passed_steady (λ (x : Thread). is_started x.life && not x.suspended && (is_no_wait x.wait || spins_in k x.wait)) k t (λ _ _ _ _. refl)
+eligible-pass k t = passed_steady (λ (x : Thread). is_started x.life && not x.suspended && (is_no_wait x.wait || is_spinning x.wait)) k t (λ _ _ _ _. refl)
 
 stands-pass : (k : Plain) (c t : ℕ) → stands (pass k) c t ≡ stands k c t
 unfolding stands

@@ -44,7 +44,7 @@ asleep_waits (Some ForTime) n few asleep = few
 asleep_waits (Some (ForEvents set all)) n few asleep = few
 asleep_waits (Some (AtBarrier i)) n few asleep = few
 asleep_waits (Some (ForPeriod i)) n few asleep = omega (arith, few)
-asleep_waits (Some (ForSemaphore i)) n few asleep = few
+asleep_waits (Some (ForSemaphore i spins)) n few asleep = few
 
 has_ties : (k : Plain) (t : ℕ) → IsSound k → HasTies k t
 has_ties k t sound = record { queued = sound.tied.queued t refl; timed = few; wakes = λ asleep. omega (arith, asleep_waits (thread_at k t).wait (timers_of k.clusters t) few asleep, sound.tied.wakes t refl asleep, timers_among k.clusters (thread_at k t).home t) } where
@@ -68,7 +68,7 @@ awaits_owner semaphores i (Some ForTime) is = absurd (false≢true is)
 awaits_owner semaphores i (Some (ForEvents set all)) is = absurd (false≢true is)
 awaits_owner semaphores i (Some (AtBarrier j)) is = absurd (false≢true is)
 awaits_owner semaphores i (Some (ForPeriod j)) is = absurd (false≢true is)
-awaits_owner semaphores i (Some (ForSemaphore j)) is = ap (λ n. (nth no_semaphore semaphores n).owner) (same_number j i is)
+awaits_owner semaphores i (Some (ForSemaphore j spins)) is = ap (λ n. (nth no_semaphore semaphores n).owner) (same_number j i is)
 
 -- the owner of a semaphore lives, and waits for another thing, if for any
 owns : (k : Plain) (t i : ℕ) → IsSound k → (semaphore_at k i).owner ≡ Some t → Owns k t i
@@ -99,7 +99,7 @@ among k t u sound on = (let seat = stands_at no_thread (λ (x : Thread). awaits_
   by (Some (ForEvents set all)) e = let no : ⊥ = cc in absurd no
   by (Some (AtBarrier j)) e = let no : ⊥ = cc in absurd no
   by (Some (ForPeriod j)) e = let no : ⊥ = cc in absurd no
-  by (Some (ForSemaphore j)) e = let seat = lives_within k.threads u (sound.chained.owners j u e) in (omega (arith, seat.0), omega (arith, seat.1, sound.places))
+  by (Some (ForSemaphore j spins)) e = let seat = lives_within k.threads u (sound.chained.owners j u e) in (omega (arith, seat.0), omega (arith, seat.1, sound.places))
 
 -- The chain of each thread ends within as many threads as there are.
 ends_soon : (k : Plain) (t : ℕ) → IsSound k → ends_by (waits_on k) 64 t ≡ true

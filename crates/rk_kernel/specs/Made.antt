@@ -13,7 +13,7 @@ use Rattle.rk_parts.specs.Threads.{no_threads}
 
 -- the part of a cluster without threads, of so many processors from a first on
 abbrev pub vacant_part : ℕ → ℕ → ℕ → ClusterPart
-vacant_part number first count = record { present = 0; lined = empty_cluster number first count; timers = []; threads = no_threads; holdings = no_holdings; moves = [] }
+vacant_part number first count = record { present = 0; lined = empty_cluster number first count; timers = []; threads = no_threads; holdings = no_holdings; moves = []; chains = []; seats = []; hosting = [] }
 
 -- the part of a cluster among clusters of so many processors each
 abbrev pub vacant_in : List ℕ → ℕ → ClusterPart

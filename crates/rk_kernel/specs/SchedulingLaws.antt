@@ -13,13 +13,15 @@ use Rattle.rk_model.specs.State.{Plain, ClusterState, no_thread, no_semaphore, n
 use Rattle.rk_model.specs.Directives.Objects.{has_begun, names_in, is_live}
 use Rattle.rk_model.specs.Directives.Outcomes.{finished}
 use Rattle.rk_model.specs.Directives.Waits.{Object, OfSemaphore, object_of_wait, is_for, arrivals_in}
-use Rattle.rk_model.specs.Scheduling.Chains.{chain, ends_by, waits_on}
+use Rattle.rk_model.specs.Scheduling.Chains.{chain, end_of, ends_by, waits_on}
+use Rattle.rk_model.specs.Scheduling.Helping.{could_run}
 use Rattle.rk_model.specs.Scheduling.Timers.{times_armed}
 use Rattle.rk_model.specs.declared.state.Armer.TheVariants.{Thread as OfThread}
 use Rattle.rk_model.specs.Steps.{Act, act}
-use Rattle.rk_model.specs.Scheduling.Priorities.{urgency}
+use Rattle.rk_model.specs.Scheduling.Priorities.{spins, urgency}
 use Rattle.rk_model.specs.Scheduling.ReadyQueues.{rank, runners}
 use Rattle.rk_model.specs.Scheduling.Running.{running, caller}
+use Rattle.rk_model.specs.Scheduling.Seats.{cpu_at}
 use Rattle.rk_model.specs.Histories.{Legal, after, ends, lowest}
 use Rattle.rk_model.specs.Text.Scenarios.{IsScenario}
 use Rattle.rk_kernel.specs.declared.steps.CoreStep.{CoreStep}
@@ -73,6 +75,30 @@ RunnersAreTheMostUrgent = AfterEach RunsTheMostUrgent
 -- No thread runs on two processors.
 abbrev pub NoneRunsTwice : Type 0
 NoneRunsTwice = AfterEach (λ k. (p q t : ℕ) → running k p ≡ Runs t → running k q ≡ Runs t → p ≡ q)
+
+-- A thread that isn't scheduled, though it could run: it is eligible, waits for nothing, and is none of the scheduled threads of its home.
+pub record IsPreempted (k : Plain) (t : ℕ) : Type 0 where
+  pub could : could_run k t ≡ true
+  pub apart : has (runners k (thread_at k t).home) t ≡ false
+
+-- A thread spins, and the end of its chain is another.
+pub record SpinsFor (k : Plain) (u t : ℕ) : Type 0 where
+  pub spins : spins k u ≡ true
+  pub end : end_of (waits_on k) MOST_OBJECTS u ≡ t
+
+-- A thread runs on one processor and on no other; the thread of that processor spins for it, and that of no lesser one does.
+pub record IsHelped (k : Plain) (t : ℕ) : Type 0 where
+  pub cpu : ℕ
+  pub runs : running k cpu ≡ Runs t
+  pub alone : (p : ℕ) → running k p ≡ Runs t → p ≡ cpu
+  pub helper : ℕ
+  pub has : cpu_at k cpu ≡ Some helper
+  pub spins : SpinsFor k helper t
+  pub least : (p u : ℕ) → cpu_at k p ≡ Some u → SpinsFor k u t → cpu ≤ p
+
+-- A thread that could run and isn't scheduled runs all the same where a scheduled thread of some cluster spins for it, after each legal history: on the least processor whose thread does, and on no other.
+abbrev pub PreemptedThreadsAreHelped : Type 0
+PreemptedThreadsAreHelped = AfterEach (λ k. (c u t : ℕ) → c < length k.clusters → has (runners k c) u ≡ true → SpinsFor k u t → IsPreempted k t → IsHelped k t)
 
 -- The names of a class: each index from 1 to 64 is that of one live object, once, or is free, once; and an object has a name exactly where it lives.
 pub record HasNames (k : Plain) (class : Class) : Type 0 where

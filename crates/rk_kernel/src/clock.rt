@@ -9,6 +9,7 @@ ghost use Rattle.rk_model.specs.Scheduling.Ticks.{charged, charge_from, pass, ru
 ghost use Rattle.rk_model.specs.Limits.{AreRunnable};
 ghost use Rattle.rk_parts.specs.Firing.{due_now, FiresFirst};
 ghost use Rattle.rk_parts.specs.Holdings.{holdings};
+ghost use Rattle.rk_parts.specs.Hosted.{AreHosted};
 ghost use Rattle.rk_parts.specs.Joined.{plain_of, threads_of};
 ghost use Rattle.rk_parts.specs.Lent.{frame};
 ghost use Rattle.rk_parts.specs.Noted.{AreNoted};
@@ -24,6 +25,7 @@ use rk_directives::waits::end_wait;
 use rk_groups::group::GroupPart;
 use rk_model::{Armer, Reply, Scenario, Status, Thread, View, Wait};
 use rk_parts::arrival::arrive;
+use rk_parts::helping::host_parts;
 use rk_parts::lent::{renew, thread_of};
 use rk_parts::parts::{AllParts, ClusterPart};
 use rk_parts::processors::{count_cpus, least_of, view_on};
@@ -61,6 +63,7 @@ fn charge_all(all: &mut AllParts)
     ensures kept { frame all.new.clusters ≡ frame all.old.clusters }
     ensures held { holdings all.new.clusters ≡ holdings all.old.clusters }
     ensures noted { AreNoted (length all.old.scenario.clusters) all.new.clusters }
+    ensures hosted { AreHosted all.new.clusters }
     ensures rest { untouched all.new ≡ untouched all.old }
 {
     for cpu in 0..count_cpus(&all.scenario) {
@@ -94,7 +97,7 @@ fn reply_at_timer(wait: Option<Wait>) -> Reply
         Some(Wait::ForEvents(_, _))
         | Some(Wait::AtBarrier(_))
         | Some(Wait::ForPeriod(_))
-        | Some(Wait::ForSemaphore(_)) => bare(Status::Timeout),
+        | Some(Wait::ForSemaphore(_, _)) => bare(Status::Timeout),
     }
 }
 
@@ -126,6 +129,7 @@ fn fire_first(all: &mut AllParts, cluster: u8) -> bool
         Some(timer) => {
             rung(&mut all.clusters, &mut all.groups, timer.who);
             settle_parts(&mut all.clusters, &None);
+            host_parts(&mut all.clusters);
             true
         }
     }

@@ -3,7 +3,7 @@
 //! Each speaks of the state after any legal history of a scenario, but for the last two: one speaks
 //! of the planned history, and one of every state.
 
-ghost use Rattle.rk_kernel.specs.SchedulingLaws.{LinesHoldTheirOwn, ProcessorsHaveTheRunners, RunnersAreTheMostUrgent, NoneRunsTwice, NamesAndObjectsAgree, NothingIsLeftOfDeletedTasks, NothingIsLeftOfDeletedSemaphores, NothingIsLeftOfDeletedBarriers, NothingIsLeftOfDeletedPartitions, NothingIsLeftOfDeletedPeriods, StatisticsAreThoseOfTheHistory, WaitsAndQueuesAgree, OwnersLiveAndNoneWaitsForItsOwn, EveryChainOfWaitsEnds, NoneActsAtWork, RefusalsChangeTheCallerAlone, LowestGoesOn};
+ghost use Rattle.rk_kernel.specs.SchedulingLaws.{LinesHoldTheirOwn, ProcessorsHaveTheRunners, RunnersAreTheMostUrgent, NoneRunsTwice, PreemptedThreadsAreHelped, NamesAndObjectsAgree, NothingIsLeftOfDeletedTasks, NothingIsLeftOfDeletedSemaphores, NothingIsLeftOfDeletedBarriers, NothingIsLeftOfDeletedPartitions, NothingIsLeftOfDeletedPeriods, StatisticsAreThoseOfTheHistory, WaitsAndQueuesAgree, OwnersLiveAndNoneWaitsForItsOwn, EveryChainOfWaitsEnds, NoneActsAtWork, RefusalsChangeTheCallerAlone, LowestGoesOn};
 ghost use Rattle.rk_kernel.specs.Cut.{SuspendNeedsItsClusterAlone};
 
 /// The ready queue of each cluster holds exactly the eligible threads of that home, each once.
@@ -25,6 +25,12 @@ pub fn runners_are_the_most_urgent()
 /// No thread runs on two processors.
 pub fn none_runs_twice()
     ensures { NoneRunsTwice }
+{}
+
+/// A thread that could run and isn't scheduled runs all the same where a scheduled thread spins for it:
+/// on the least processor whose thread does, and on no other.
+pub fn preempted_threads_are_helped()
+    ensures { PreemptedThreadsAreHelped }
 {}
 
 /// In each class each index from 1 to 64 is that of one live object, once, or is free, once; and an

@@ -20,8 +20,10 @@ ghost use Rattle.rk_kernel.specs.Ready.{IsReady};
 use rk_cluster::{Cluster, Moves};
 use rk_groups::group::GroupPart;
 use rk_model::{Body, Class, Init, Items, Life, NoMemory, Scenario, Thread, ThreadIx, Wakes};
+use rk_mrsp::{Assigned, Chains, Hosting};
 use rk_partition::PartitionStore;
 use rk_parts::arrival::arrive;
+use rk_parts::helping::host_anew;
 use rk_parts::holdings::Holdings;
 use rk_parts::lent::make;
 use rk_parts::parts::{AllParts, ClusterPart, TablePart};
@@ -92,6 +94,9 @@ fn make_cluster(alloc: Global, number: u8, first: u8, count: u8) -> Result<Clust
         threads: Threads::new(alloc)?,
         holdings: Holdings::new(alloc)?,
         moves: Moves::new(alloc)?,
+        chains: Chains::new(alloc)?,
+        seats: Assigned::new(alloc)?,
+        hosting: Hosting::new(alloc)?,
     })
 }
 
@@ -206,5 +211,6 @@ pub(crate) fn make_opening(alloc: Global, scenario: &Scenario) -> Result<AllPart
     start_all(scenario, &mut all.clusters);
     name_all(&mut all.table.names, scenario.inits.as_slice());
     settle_parts(&mut all.clusters, &None);
+    host_anew(&mut all.clusters);
     Ok(all)
 }

@@ -14,6 +14,7 @@ ghost use Rattle.rk_kernel.specs.Step.{IsStep};
 use rk_directives::actions::action;
 use rk_directives::outcomes::{conclude, last_of};
 use rk_model::{Entry, ThreadIx, What, Why};
+use rk_parts::helping::host_parts;
 use rk_parts::lent::thread_of;
 use rk_parts::parts::AllParts;
 use rk_parts::processors::{caller_on, why_not};
@@ -52,6 +53,7 @@ pub(crate) fn act_by(all: &mut AllParts, cpu: u8, thread: ThreadIx) -> Entry
     let reply = conclude(&all.scenario, &mut all.clusters, thread, &answer);
     let last = last_of(&answer);
     settle_parts(&mut all.clusters, &last);
+    host_parts(&mut all.clusters);
     Entry {
         seat: cpu,
         what: match was.finished {

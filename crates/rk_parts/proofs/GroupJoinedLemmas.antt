@@ -16,7 +16,7 @@ pub barrier_joined : (s : Scenario) (table : Table) (parts : List ClusterPart) (
 barrier_joined s table parts old new i b puts = λ k. record (joined s table parts old) { semaphores = puts.semaphores k; barriers = puts.barriers k; partitions = puts.partitions k; periods = puts.periods k }
 
 -- and a thread that leaves the queue of what it waits for leaves it in the state.
-pub left_joined : (s : Scenario) (table : Table) (parts : List ClusterPart) (old new : List GroupPart) (t : ℕ) (wait : Option Wait) → wait ≡ (thread_lent parts t).wait → Leaves old t wait new → joined s table parts new ≡ leave (joined s table parts old) t
+pub left_joined : (s : Scenario) (table : Table) (parts : List ClusterPart) (old new : List GroupPart) (t : ℕ) (wait : Option Wait) → wait ≡ (thread_lent parts t).wait → Leaves old t (object_of_wait wait) new → joined s table parts new ≡ leave (joined s table parts old) t
 left_joined s table parts old new t wait waits leaves =
     let is : barriers_of new ≡ without_arrival (barriers_of old) t (object_of_wait (thread_lent parts t).wait) = leaves.barriers ∙ ap (λ (w : Option Wait). without_arrival (barriers_of old) t (object_of_wait w)) waits in
     let are : semaphores_of new ≡ without_waiter_in (semaphores_of old) t (object_of_wait (thread_lent parts t).wait) = leaves.semaphores ∙ ap (λ (w : Option Wait). without_waiter_in (semaphores_of old) t (object_of_wait w)) waits in

@@ -7,7 +7,7 @@ use Rattle.std.proofs.lemmas.List.{get_or_append_left, get_or-append-add, get_or
 use Rattle.rk_model.specs.declared.scenario.Scenario.{Scenario}
 use Rattle.rk_model.specs.Names.{Table}
 use Rattle.rk_model.specs.State.{ClusterState}
-use Rattle.rk_model.specs.Scheduling.Running.{all_cpus, cpu_count, cpu_at}
+use Rattle.rk_model.specs.Scheduling.Seats.{all_cpus, cpu_count, cpu_at}
 use Rattle.rk_model.specs.Text.Scenarios.{cpus_in}
 use Rattle.rk_model.proofs.BooleanLemmas.{same_number}
 use Rattle.rk_parts.specs.declared.parts.ClusterPart.{ClusterPart}
@@ -207,6 +207,10 @@ all_sit counts parts laid = let is = lie counts parts laid in λ i h. record { c
 
 have_counts : (counts : List ℕ) (parts : List ClusterPart) → AllSit counts parts → HaveCounts (numbered counts parts) 0 counts
 have_counts counts parts sit i h = let z : 0 + i ≡ i = omega arith in rw z (numbered_counts counts parts sit i)
+
+-- behind all processors the parts have none
+pub seats_end : (counts : List ℕ) (parts : List ClusterPart) (p : ℕ) → AreLaid counts (layouts parts) → cpus_in counts ≤ p → seat_in parts p ≡ None
+seats_end counts parts p laid high = no_seat_in counts parts p high (all_sit counts parts laid)
 
 -- how many processors there are
 pub cpu_count_joined : (s : Scenario) (table : Table) (groups : List GroupPart) (parts : List ClusterPart) → AreLaid s.clusters (layouts parts) → cpu_count (joined s table parts groups) ≡ cpus_in s.clusters

@@ -17,3 +17,5 @@ pub mod WholeLemmas
 pub mod ClusterRegisterLemmas
 pub mod RegisterFillLemmas
 pub mod GroupJoinedLemmas
+pub mod HostedLemmas
+pub mod NotedHostLemmas

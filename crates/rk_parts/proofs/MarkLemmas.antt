@@ -1,5 +1,5 @@
 -- How threads are marked, and how the marked ones are noted.
-use Rattle.std.proofs.Common.{◌≡◌, ◌≢◌, ℕ, zero, suc, ◌+◌, ◌-◌, ◌<◌, ◌≤◌, List, [], ◌∷◌, ◌++◌, Bool, true, false, cond, ◌==◌, ◌||◌, ◌⊎◌, inl, inr, length, map, drop, get_or, replicate, arith, refl, sym, ap, ◌∙◌, length-set}
+use Rattle.std.proofs.Common.{subst, ⊎_elim, ◌≡◌, ◌≢◌, ℕ, zero, suc, ◌+◌, ◌-◌, ◌<◌, ◌≤◌, List, [], ◌∷◌, ◌++◌, Bool, true, false, cond, ◌==◌, ◌||◌, ◌⊎◌, inl, inr, length, map, drop, get_or, replicate, arith, refl, sym, ap, ◌∙◌, length-set}
 use Rattle.std.specs.List.{slice_set}
 use Rattle.std.proofs.lemmas.List.{drop_more, get_or-set_same, get_or-set_other, ext_get_or, length-map}
 use Rattle.std.proofs.lemmas.Bool.{cases_eq, false≢true}
@@ -7,11 +7,12 @@ use Rattle.std.proofs.lemmas.Bool.Decides.{nat_tests}
 use Rattle.rk_model.specs.declared.settling.Standing.{Standing}
 use Rattle.rk_model.specs.declared.state.Thread.{Thread}
 use Rattle.rk_model.specs.State.{no_thread}
-use Rattle.rk_model.specs.Scheduling.Priorities.{no_standing, nth_standing}
+use Rattle.rk_model.specs.Scheduling.Priorities.{is_spinning, no_standing, nth_standing}
 use Rattle.rk_model.specs.Lists.{has, times, nth, with_nth}
 use Rattle.rk_model.proofs.CountLemmas.{times-append, has-append, times_none, length_within}
 use Rattle.rk_model.proofs.IndexLemmas.{nth-with_other, nth-with_kept}
-use Rattle.rk_parts.specs.Threads.{own_standing, AreApart, StandAsNoted}
+use Rattle.rk_parts.specs.Threads.{own_standing, AreApart, NoneSpins, StandAsNoted}
+use Rattle.rk_model.proofs.BooleanLemmas.{neither_front, neither_back}
 use Rattle.rk_parts.proofs.StandingLemmas.{standing_of}
 
 -- ---- marks
@@ -133,5 +134,30 @@ nth_replicate x n (suc i) = by x n i where
 pub none_noted : (n : ℕ) → StandAsNoted [] (replicate n no_standing) (replicate n no_thread)
 none_noted n t h = ap own_standing (nth_replicate no_thread n t) ∙ sym (nth_replicate no_standing n t)
 
-pub opened : (places : List Thread) (stood : List Standing) (marked : List ℕ) → places ≡ replicate 64 no_thread → stood ≡ replicate 64 no_standing → marked ≡ [] → (length places ≡ 64) × (length stood ≡ 64) × AreApart marked × StandAsNoted marked stood places
-opened places stood marked a b d = rw (a, b, d) (refl, refl, none_marked, none_noted 64)
+pub opened : (places : List Thread) (stood : List Standing) (marked : List ℕ) → places ≡ replicate 64 no_thread → stood ≡ replicate 64 no_standing → marked ≡ [] → (length places ≡ 64) × (length stood ≡ 64) × AreApart marked × StandAsNoted marked stood places × NoneSpins false places
+opened places stood marked a b d = rw (a, b, d) (refl, refl, none_marked, none_noted 64, λ _ t. ap (λ (x : Thread). is_spinning x.wait) (nth_replicate no_thread 64 t))
+
+-- ---- whether one may spin
+
+put_is : (places new : List Thread) (u a : ℕ) (x : Thread) → a ≡ u → 1 ≤ a → new ≡ slice_set places (a - 1) x → new ≡ with_nth places u x
+put_is places new zero a x is low e = absurd (omega (arith, is, low))
+put_is places new (suc i) a x is low e = let same : a - 1 ≡ i = omega (arith, is) in e ∙ ap (λ n. slice_set places n x) same
+
+-- none spins still once one that doesn't was put
+pub spins_put : (may next : Bool) (places new : List Thread) (u a : ℕ) (x : Thread) → next ≡ (may || is_spinning (nth no_thread new u).wait) → a ≡ u → 1 ≤ a → new ≡ slice_set places (a - 1) x → NoneSpins may places → NoneSpins next new
+spins_put may next places new u a x is at low e none off t =
+    let put = is_spinning (nth no_thread new u).wait in
+    let both : (may || put) ≡ false = sym is ∙ off in
+    ⊎_elim
+    (λ same. subst (λ n. is_spinning (nth no_thread new n).wait ≡ false) (sym same) (neither_back may put both))
+    (λ other. ap (λ (ts : List Thread). is_spinning (nth no_thread ts t).wait) (put_is places new u a x at low e) ∙ ap (λ (y : Thread). is_spinning y.wait) (nth-with_other no_thread x places u t other) ∙ none (neither_front may put both) t)
+    (cases_eq t u)
+
+-- a thread that waits as before spins as before
+pub spins_renewed : (may : Bool) (places new : List Thread) (u a : ℕ) (x : Thread) → x.wait ≡ (nth no_thread places u).wait → a ≡ u → 1 ≤ a → new ≡ slice_set places (a - 1) x → NoneSpins may places → NoneSpins may new
+spins_renewed may places new u a x waits at low e none off t =
+    ap (λ (ts : List Thread). is_spinning (nth no_thread ts t).wait) (put_is places new u a x at low e)
+    ∙ nth-with_kept (λ (y : Thread). is_spinning y.wait) no_thread x places u t (ap is_spinning waits) ∙ none off t
+
+pub put_there : (places new : List Thread) (u a : ℕ) (x : Thread) → a ≡ u → 1 ≤ a → new ≡ slice_set places (a - 1) x → new ≡ with_nth places u x
+put_there places new u a x is low e = put_is places new u a x is low e

@@ -12,7 +12,7 @@ use Rattle.rk_model.specs.declared.state.Life.TheVariants.{Absent, Dormant, Star
 use Rattle.rk_model.specs.Lists.{has, nth}
 use Rattle.rk_model.specs.State.{no_thread}
 use Rattle.rk_model.specs.Directives.Objects.{has_begun}
-use Rattle.rk_model.specs.Scheduling.Priorities.{is_started, is_no_wait, nth_standing}
+use Rattle.rk_model.specs.Scheduling.Priorities.{is_started, is_no_wait, is_spinning, nth_standing}
 use Rattle.rk_model.specs.Scheduling.Settling.{belongs, shifts, shift_of}
 use Rattle.rk_model.proofs.CountLemmas.{has-append}
 use Rattle.rk_cluster.specs.declared.moves.Change.{Change}
@@ -24,7 +24,7 @@ use Rattle.rk_parts.proofs.StandingLemmas.{standing_of}
 
 not_ready : (x : Thread) → has_begun x.life ≡ false → is_ready x ≡ false
 not_ready x dead = by x.life dead where
-  by : (life : Life) → has_begun life ≡ false → (is_started life && not x.suspended && is_no_wait x.wait) ≡ false
+  by : (life : Life) → has_begun life ≡ false → (is_started life && not x.suspended && (is_no_wait x.wait || is_spinning x.wait)) ≡ false
   by Absent h = refl
   by Dormant h = refl
   by Started h = absurd (false≢true (sym h))

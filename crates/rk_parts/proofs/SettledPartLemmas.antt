@@ -78,7 +78,7 @@ settled_part_still marked last part none noted places stood elsewhere still =
     let changes = nobody_changes marked part.threads.stood part.threads.places last part.lined.number none noted elsewhere in
     let notes : part.threads.stood ≡ standings_in part = all_noted part.threads.places marked part.threads.stood places stood none noted in
     let lined : part.lined ≡ settled (register part.threads.stood (standings_in part) (option_to_list last) part.lined.number) part.lined = sym (ap (λ f. settled f part.lined) changes ∙ still) in
-    λ i. record { present = part.present; lined = lined i; timers = part.timers; threads = record { places = part.threads.places; stood = notes i }; holdings = part.holdings; moves = [] }
+    λ i. record { present = part.present; lined = lined i; timers = part.timers; threads = record { places = part.threads.places; stood = notes i }; holdings = part.holdings; moves = []; chains = []; seats = []; hosting = [] }
 
 -- ---- whom a part holds
 

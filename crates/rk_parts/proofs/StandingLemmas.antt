@@ -1,15 +1,13 @@
 -- How threads stand by themselves is how they stand.
-use Rattle.std.proofs.Common.{◌≡◌, ℕ, zero, suc, ◌+◌, ◌<◌, List, Bool, true, false, cond, eqb, ◌||◌, Option, None, Some, length, map, get_or, ⊎_elim, arith, refl, sym, ap, ◌∙◌}
+use Rattle.std.proofs.Common.{◌≡◌, ℕ, zero, suc, ◌+◌, ◌<◌, List, Bool, true, false, cond, eqb, None, Some, length, map, get_or, ⊎_elim, arith, refl, sym, ap, ◌∙◌}
 use Rattle.std.proofs.lemmas.Bool.{cases_lt}
 use Rattle.std.proofs.lemmas.Bool.Decides.{nat_tests}
 use Rattle.std.proofs.lemmas.List.{get_or_past, get_or-map, ext_get_or, length-map}
 use Rattle.rk_model.specs.declared.settling.Standing.{Standing}
 use Rattle.rk_model.specs.declared.state.Thread.{Thread}
-use Rattle.rk_model.specs.declared.state.Wait.{Wait}
-use Rattle.rk_model.specs.declared.state.Wait.TheVariants.{ForTime, ForEvents, AtBarrier, ForPeriod, ForSemaphore}
 use Rattle.rk_model.specs.Lists.{nth}
 use Rattle.rk_model.specs.State.{Plain, no_thread, thread_at}
-use Rattle.rk_model.specs.Scheduling.Priorities.{is_no_wait, spins_in, is_eligible, prio, or_least_urgent, home_prio, urgency, standing, standings_from, standings, no_standing, nth_standing}
+use Rattle.rk_model.specs.Scheduling.Priorities.{is_eligible, prio, or_least_urgent, home_prio, urgency, standing, standings_from, standings, no_standing, nth_standing}
 use Rattle.rk_model.specs.Scheduling.Settling.{belongs}
 use Rattle.rk_parts.specs.Threads.{is_ready, own_standing}
 use Rattle.rk_model.proofs.BooleanLemmas.{equal_test}
@@ -20,17 +18,9 @@ standing_of places zero = refl
 standing_of places (suc i) =
     ⊎_elim (λ h. get_or-map own_standing places i no_thread no_standing h) (λ h. rw (get_or_past places i no_thread h, get_or_past (map own_standing places) i no_standing (rw length-map h)) refl) (cases_lt i (length places))
 
-none_spins : (k : Plain) (wait : Option Wait) → (is_no_wait wait || spins_in k wait) ≡ is_no_wait wait
-none_spins k None = refl
-none_spins k (Some ForTime) = refl
-none_spins k (Some (ForEvents set all)) = refl
-none_spins k (Some (AtBarrier i)) = refl
-none_spins k (Some (ForPeriod i)) = refl
-none_spins k (Some (ForSemaphore i)) = refl
-
 eligible_own : (k : Plain) (t : ℕ) → is_eligible k t ≡ is_ready (thread_at k t)
 unfolding is_eligible
-eligible_own k t = rw (none_spins k (thread_at k t).wait) refl
+eligible_own k t = refl
 
 base_is : (thread : Thread) → or_least_urgent (cond (eqb thread.home thread.home) (Some thread.base) None) ≡ thread.base
 base_is thread = rw (equal_test thread.home thread.home refl) refl

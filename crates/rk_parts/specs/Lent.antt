@@ -14,6 +14,7 @@ use Rattle.rk_model.specs.Directives.Objects.{has_begun}
 use Rattle.rk_model.specs.Scheduling.Timers.{take_due}
 use Rattle.rk_model.specs.Text.Scenarios.{cpus_in}
 use Rattle.rk_cluster.specs.Clusters.{Cluster}
+use Rattle.rk_mrsp.specs.declared.seats.Seat.{Seat}
 use Rattle.rk_parts.specs.declared.parts.ClusterPart.{ClusterPart}
 use Rattle.rk_groups.specs.declared.group.GroupPart.{GroupPart}
 use Rattle.rk_groups.specs.Groups.{one_more}
@@ -48,14 +49,15 @@ layout part = record { number = part.lined.number; first = part.lined.first; cou
 abbrev pub layouts : List ClusterPart → List Layout
 layouts parts = map layout parts
 
--- What a part stores beside the threads and the timers: its cluster, how its threads stood when it settled last, and the present tick.
+-- What a part stores beside the threads and the timers: its cluster, how its threads stood when it settled last, the present tick, and whom its processors help.
 pub record Stored : Type 0 where
   pub lined : Cluster
   pub stood : List Standing
   pub present : ℕ
+  pub hosting : List Seat
 
 abbrev pub stored_in : ClusterPart → Stored
-stored_in part = record { lined = part.lined; stood = part.threads.stood; present = part.present }
+stored_in part = record { lined = part.lined; stood = part.threads.stood; present = part.present; hosting = part.hosting }
 
 -- what these parts store
 abbrev pub stored : List ClusterPart → List Stored

@@ -1,6 +1,8 @@
 pub mod Threads
 pub mod Joined
 pub mod Holdings
+pub mod HeldChains
+pub mod Hosted
 pub mod Lent
 pub mod ClusterRegisters
 pub mod Noted

@@ -32,6 +32,9 @@ no_part = record {
   threads = record { places = []; stood = [] };
   holdings = [];
   moves = [];
+  chains = [];
+  seats = [];
+  hosting = [];
 }
 
 -- the part at a place among these
@@ -56,14 +59,17 @@ abbrev pub one_lives : List Thread → Option ℕ → Bool
 one_lives places None = false
 one_lives places (Some t) = has_begun (nth no_thread places t).life
 
--- a part after settling, where some threads go last: its cluster has followed the register, and it is noted how its threads stand
+-- a part after settling, where some threads go last, but for the room for this and for helping: its cluster has followed the register, and it is noted how its threads stand
 abbrev pub settled_part : List ℕ → ClusterPart → ClusterPart
 settled_part last part = record part {
   lined = settled (register part.threads.stood (standings_in part) last part.lined.number) part.lined;
   threads = record part.threads { stood = standings_in part };
   moves = [];
+  chains = [];
+  seats = [];
+  hosting = [];
 }
 
--- a part but for the room for settling it
+-- a part but for the room for settling it, and for whom its processors help, which is found after it
 abbrev pub bare : ClusterPart → ClusterPart
-bare part = record part { moves = [] }
+bare part = record part { moves = []; chains = []; seats = []; hosting = [] }

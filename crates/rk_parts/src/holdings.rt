@@ -4,13 +4,15 @@ ghost use Rattle.std.specs.Prelude.{◌≡◌, ◌≤◌, None, IfOk, IfSome, tr
 ghost use Rattle.rk_model.specs.declared.limits.TheConstants.{MOST_OBJECTS};
 ghost use Rattle.rk_model.specs.Directives.Objects.{has_begun};
 ghost use Rattle.rk_model.specs.Lists.{nth, with_nth};
+ghost use Rattle.rk_parts.specs.HeldChains.{waits_on_holder};
 ghost use Rattle.rk_parts.specs.Holdings.{holder, holdings, no_holdings, with_owner, IsNotedIn};
 ghost use Rattle.rk_parts.specs.Joined.{thread_lent};
 ghost use Rattle.rk_parts.specs.Lent.{NotesOwner};
 
+use crate::lent::thread_of;
 use crate::parts::ClusterPart;
 use rk_model::limits::MOST_OBJECTS;
-use rk_model::{Items, NoMemory, ThreadIx};
+use rk_model::{Items, NoMemory, ThreadIx, Wait};
 use std::alloc::Global;
 use std::marker::Model;
 
@@ -81,6 +83,16 @@ pub fn holder(clusters: &[ClusterPart], index: u16) -> Option<ThreadIx>
         }
     }
     None
+}
+
+/// The thread on which a thread waits: the owner of the semaphore for which it waits, if there is one.
+pub fn waits_on(clusters: &[ClusterPart], thread: ThreadIx) -> Option<ThreadIx>
+    ensures { result ≡ waits_on_holder clusters.now thread }
+{
+    match thread_of(clusters, thread).wait {
+        Some(Wait::ForSemaphore(index, _)) => holder(clusters, index),
+        _ => None,
+    }
 }
 
 /// Notes in a part who owns a semaphore: its owner, if that lives there.

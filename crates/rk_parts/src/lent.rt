@@ -74,12 +74,13 @@ pub fn put(clusters: &mut [ClusterPart], index: ThreadIx, thread: Thread)
     }
 }
 
-/// Puts another thread where one lives, that lives, has the same home and stands as before.
+/// Puts another thread where one lives, that lives, has the same home, and stands and waits as before.
 pub fn renew(clusters: &mut [ClusterPart], index: ThreadIx, thread: Thread)
     requires lives { has_begun (thread_lent clusters.old index).life ≡ true }
     requires life { has_begun thread.life ≡ true }
     requires home { thread.home ≡ (thread_lent clusters.old index).home }
     requires stands { own_standing thread ≡ own_standing (thread_lent clusters.old index) }
+    requires waits { thread.wait ≡ (thread_lent clusters.old index).wait }
     ensures puts { Puts clusters.old index thread clusters.new }
     ensures noted { (count : ℕ) → AreNoted count clusters.old → AreNoted count clusters.new }
 {

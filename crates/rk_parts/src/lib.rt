@@ -2,6 +2,7 @@
 #![tactic(auto)]
 
 pub mod arrival;
+pub mod helping;
 pub mod holdings;
 pub mod lent;
 pub mod parts;

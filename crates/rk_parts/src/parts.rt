@@ -8,6 +8,7 @@ use crate::threads::Threads;
 use rk_cluster::{Cluster, Moves};
 use rk_groups::group::GroupPart;
 use rk_model::Scenario;
+use rk_mrsp::{Assigned, Chains, Hosting};
 use rk_wheel::Wheel;
 
 /// The part of a cluster. That of a cluster that the scenario lacks has no processors and no threads.
@@ -25,6 +26,12 @@ pub struct ClusterPart {
     pub holdings: Holdings,
     /// Room for what settling does to the threads of the cluster.
     pub moves: Moves,
+    /// Room for the chains of threads, and for the threads that processors have, from which it is
+    /// found whom they help.
+    pub chains: Chains,
+    pub seats: Assigned,
+    /// Whom the processors of the cluster help.
+    pub hosting: Hosting,
 }
 
 /// The part of the table: the names and the indices of the objects of all classes.

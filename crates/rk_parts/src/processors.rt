@@ -4,16 +4,19 @@ ghost use Rattle.std.specs.Prelude.{◌≡◌, ◌<◌, ◌≤◌, List, length,
 ghost use Rattle.rk_model.specs.declared.limits.TheConstants.{MOST_PROCESSORS};
 ghost use Rattle.rk_model.specs.declared.scenario.Scenario.{Scenario as ScenarioView};
 ghost use Rattle.rk_model.specs.Names.{Table};
-ghost use Rattle.rk_model.specs.Scheduling.Running.{running, caller, least, why_of};
+ghost use Rattle.rk_model.specs.Scheduling.Running.{view_of, running, ready, caller, least, why_of};
 ghost use Rattle.rk_model.specs.Text.Scenarios.{cpus_in};
 ghost use Rattle.rk_groups.specs.declared.group.GroupPart.{GroupPart};
+ghost use Rattle.rk_groups.specs.GroupObjects.{semaphores_of};
+ghost use Rattle.rk_parts.specs.Holdings.{AreHeld, holdings};
+ghost use Rattle.rk_parts.specs.Hosted.{hosted_in, AreHosted, ShowRunning};
 ghost use Rattle.rk_parts.specs.Joined.{joined};
 ghost use Rattle.rk_parts.specs.Lent.{layouts, AreLaid};
 ghost use Rattle.rk_parts.specs.Seats.{seat_in, is_seat, seat_of};
 
 use crate::lent::thread_of;
 use crate::parts::ClusterPart;
-use crate::standing::spins;
+use crate::standing::{is_spinning, spins};
 use rk_cluster::Cluster;
 use rk_model::{Scenario, ThreadIx, View, Why};
 
@@ -34,12 +37,24 @@ fn has_seat(cluster: &Cluster, cpu: u8) -> bool
 }
 
 /// The thread that a processor has.
-fn cpu_of(clusters: &[ClusterPart], cpu: u8) -> Option<ThreadIx>
+pub(crate) fn cpu_of(clusters: &[ClusterPart], cpu: u8) -> Option<ThreadIx>
     ensures { result ≡ seat_in clusters.now cpu }
 {
     for part in clusters {
         if has_seat(&part.lined, cpu) {
             return part.lined.assigned(cpu);
+        }
+    }
+    None
+}
+
+/// The thread that a processor helps, as it is noted, if it helps one.
+fn helped_of(clusters: &[ClusterPart], cpu: u8) -> Option<ThreadIx>
+    ensures { result ≡ hosted_in clusters.now cpu }
+{
+    for part in clusters {
+        if has_seat(&part.lined, cpu) {
+            return part.hosting.helped(cpu);
         }
     }
     None
@@ -57,13 +72,15 @@ pub fn count_cpus(scenario: &Scenario) -> u8
     count
 }
 
-/// What a processor does.
-pub fn view_on(clusters: &[ClusterPart], cpu: u8) -> View
-    ensures { (s : ScenarioView) (table : Table) (groups : List GroupPart) → AreLaid s.clusters (layouts clusters.now) → result ≡ running (joined s table clusters.now groups) cpu }
+/// What a processor with a thread does. It is asked only where the thread spins.
+#[cold]
+#[inline(never)]
+fn view_with(clusters: &[ClusterPart], cpu: u8, thread: ThreadIx) -> View
+    ensures { (s : ScenarioView) (table : Table) (groups : List GroupPart) → result ≡ view_of (joined s table clusters.now groups) (Some thread) (hosted_in clusters.now cpu) }
 {
-    match cpu_of(clusters, cpu) {
-        None => View::Idle,
-        Some(thread) => {
+    match helped_of(clusters, cpu) {
+        Some(other) => View::Runs(other),
+        None => {
             if spins(clusters, thread) {
                 View::Spins(thread)
             } else {
@@ -73,11 +90,29 @@ pub fn view_on(clusters: &[ClusterPart], cpu: u8) -> View
     }
 }
 
-/// The thread that has a directive on a processor.
-pub fn caller_on(clusters: &[ClusterPart], cpu: u8) -> Option<ThreadIx>
-    ensures { (s : ScenarioView) (table : Table) (groups : List GroupPart) → AreLaid s.clusters (layouts clusters.now) → result ≡ caller (joined s table clusters.now groups) cpu }
+/// What a processor does.
+pub fn view_on(clusters: &[ClusterPart], cpu: u8) -> View
+    ensures { (s : ScenarioView) (table : Table) (groups : List GroupPart) → ShowRunning s groups clusters.now → result ≡ running (joined s table clusters.now groups) cpu }
 {
-    match view_on(clusters, cpu) {
+    match cpu_of(clusters, cpu) {
+        None => View::Idle,
+        Some(thread) => {
+            if spins(clusters, thread) {
+                view_with(clusters, cpu, thread)
+            } else {
+                View::Runs(thread)
+            }
+        }
+    }
+}
+
+/// The thread that has a directive on a processor that does this.
+#[cold]
+#[inline(never)]
+fn ready_in(clusters: &[ClusterPart], view: View) -> Option<ThreadIx>
+    ensures { (s : ScenarioView) (table : Table) (groups : List GroupPart) → result ≡ ready (joined s table clusters.now groups) view }
+{
+    match view {
         View::Runs(thread) => {
             if thread_of(clusters, thread).left == 0 {
                 Some(thread)
@@ -89,9 +124,28 @@ pub fn caller_on(clusters: &[ClusterPart], cpu: u8) -> Option<ThreadIx>
     }
 }
 
+/// The thread that has a directive on a processor.
+pub fn caller_on(clusters: &[ClusterPart], cpu: u8) -> Option<ThreadIx>
+    ensures { (s : ScenarioView) (table : Table) (groups : List GroupPart) → ShowRunning s groups clusters.now → result ≡ caller (joined s table clusters.now groups) cpu }
+{
+    match cpu_of(clusters, cpu) {
+        None => None,
+        Some(thread) => {
+            let found = thread_of(clusters, thread);
+            if is_spinning(found.wait) {
+                ready_in(clusters, view_with(clusters, cpu, thread))
+            } else if found.left == 0 {
+                Some(thread)
+            } else {
+                None
+            }
+        }
+    }
+}
+
 /// Why a processor has no directive.
 pub fn why_not(clusters: &[ClusterPart], cpu: u8) -> Why
-    ensures { (s : ScenarioView) (table : Table) (groups : List GroupPart) → AreLaid s.clusters (layouts clusters.now) → result ≡ why_of (running (joined s table clusters.now groups) cpu) }
+    ensures { (s : ScenarioView) (table : Table) (groups : List GroupPart) → ShowRunning s groups clusters.now → result ≡ why_of (running (joined s table clusters.now groups) cpu) }
 {
     match view_on(clusters, cpu) {
         View::Idle => Why::Idle,
@@ -104,8 +158,9 @@ pub fn why_not(clusters: &[ClusterPart], cpu: u8) -> Why
 pub fn least_of(scenario: &Scenario, clusters: &[ClusterPart]) -> Option<Calling>
     requires laid { AreLaid scenario.now.clusters (layouts clusters.now) }
     requires few { cpus_in scenario.now.clusters ≤ MOST_PROCESSORS }
-    ensures least { (table : Table) (groups : List GroupPart) → seat_of result ≡ least (joined scenario.now table clusters.now groups) }
-    ensures found { (table : Table) (groups : List GroupPart) → IfSome result (λ calling. (caller (joined scenario.now table clusters.now groups) calling.cpu ≡ Some calling.thread) × (calling.cpu < cpus_in scenario.now.clusters)) }
+    requires hosted { AreHosted clusters.now }
+    ensures least { (table : Table) (groups : List GroupPart) → AreHeld (holdings clusters.now) (semaphores_of groups) → seat_of result ≡ least (joined scenario.now table clusters.now groups) }
+    ensures found { (table : Table) (groups : List GroupPart) → AreHeld (holdings clusters.now) (semaphores_of groups) → IfSome result (λ calling. (caller (joined scenario.now table clusters.now groups) calling.cpu ≡ Some calling.thread) × (calling.cpu < cpus_in scenario.now.clusters)) }
 {
     for cpu in 0..count_cpus(scenario) {
         if let Some(thread) = caller_on(clusters, cpu) {

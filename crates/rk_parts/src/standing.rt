@@ -1,5 +1,5 @@
 ghost use Rattle.std.specs.Prelude.{◌≡◌};
-ghost use Rattle.rk_model.specs.Scheduling.Priorities.{spins as spins_of, prio, home_prio, no_standing};
+ghost use Rattle.rk_model.specs.Scheduling.Priorities.{is_spinning, spins as spins_of, prio, home_prio, no_standing};
 ghost use Rattle.rk_parts.specs.Joined.{lent};
 ghost use Rattle.rk_parts.specs.Threads.{is_ready, own_standing};
 
@@ -17,11 +17,23 @@ pub fn not_standing() -> Standing
     }
 }
 
+/// Whether a thread that waits for this spins.
+pub(crate) fn is_spinning(wait: Option<Wait>) -> bool
+    ensures { result ≡ is_spinning wait }
+{
+    match wait {
+        Some(Wait::ForSemaphore(_, spins)) => spins,
+        _ => false,
+    }
+}
+
 /// Whether a thread is eligible by itself.
-fn ready(thread: Thread) -> bool
+pub(crate) fn is_ready(thread: Thread) -> bool
     ensures { result ≡ is_ready thread }
 {
-    matches!(thread.life, Life::Started) && !thread.suspended && thread.wait.is_none()
+    matches!(thread.life, Life::Started)
+        && !thread.suspended
+        && (thread.wait.is_none() || is_spinning(thread.wait))
 }
 
 /// How a thread stands by itself.
@@ -29,7 +41,7 @@ pub fn own(thread: Thread) -> Standing
     ensures { result ≡ own_standing thread }
 {
     Standing {
-        cluster: if ready(thread) {
+        cluster: if is_ready(thread) {
             Some(thread.home)
         } else {
             None
@@ -42,14 +54,7 @@ pub fn own(thread: Thread) -> Standing
 pub fn spins(clusters: &[ClusterPart], thread: ThreadIx) -> bool
     ensures { result ≡ spins_of (lent clusters.now) thread }
 {
-    match thread_of(clusters, thread).wait {
-        None => false,
-        Some(Wait::ForTime) => false,
-        Some(Wait::ForEvents(_, _)) => false,
-        Some(Wait::AtBarrier(_)) => false,
-        Some(Wait::ForPeriod(_)) => false,
-        Some(Wait::ForSemaphore(_)) => false,
-    }
+    is_spinning(thread_of(clusters, thread).wait)
 }
 
 /// The priority of the thread in a cluster, if it has one there.

@@ -8,12 +8,12 @@ ghost use Rattle.rk_model.specs.declared.limits.TheConstants.{MOST_OBJECTS};
 ghost use Rattle.rk_model.specs.Lists.{has, nth, with_nth};
 ghost use Rattle.rk_model.specs.State.{no_thread};
 ghost use Rattle.rk_model.specs.Directives.Objects.{has_begun};
-ghost use Rattle.rk_model.specs.Scheduling.Priorities.{nth_standing};
-ghost use Rattle.rk_parts.specs.Threads.{no_threads, own_standing, AreApart, StandAsNoted};
+ghost use Rattle.rk_model.specs.Scheduling.Priorities.{is_spinning, nth_standing};
+ghost use Rattle.rk_parts.specs.Threads.{no_threads, own_standing, AreApart, NoneSpins, StandAsNoted};
 
-use crate::standing::{not_standing, own};
+use crate::standing::{is_spinning, not_standing, own};
 use rk_model::limits::MOST_OBJECTS;
-use rk_model::{Bounded, Items, Life, NoMemory, Standing, Thread, ThreadIx};
+use rk_model::{Bounded, Items, Life, NoMemory, Standing, Thread, ThreadIx, Wait};
 use std::alloc::Global;
 use std::marker::Model;
 
@@ -28,18 +28,20 @@ pub struct Threads {
     stood: Items<Standing>,
     /// Those that were written since the state settled; all others stand as they stood.
     marked: Marked,
+    /// Whether a thread that spins was ever put here.
+    spun: bool,
 }
 
 impl Model for Threads {
     ghost use Rattle.std.specs.Prelude.{◌≡◌, length};
-    ghost use Rattle.rk_parts.specs.Threads.{Threads as ThreadsView, AreApart, StandAsNoted};
+    ghost use Rattle.rk_parts.specs.Threads.{Threads as ThreadsView, AreApart, StandAsNoted, NoneSpins};
     ghost use Rattle.rk_model.specs.declared.limits.TheConstants.{MOST_OBJECTS};
 
     ghost Value = { ThreadsView };
 
     ghost view = { λ t. record { places = t.places; stood = t.stood } };
 
-    ghost invariant = { λ t. (length t.places ≡ MOST_OBJECTS) × (length t.stood ≡ MOST_OBJECTS) × AreApart t.marked × StandAsNoted t.marked t.stood t.places };
+    ghost invariant = { λ t. (length t.places ≡ MOST_OBJECTS) × (length t.stood ≡ MOST_OBJECTS) × AreApart t.marked × StandAsNoted t.marked t.stood t.places × NoneSpins t.spun t.places };
 }
 
 /// The thread of an index among these, or what stands where there is none.
@@ -95,6 +97,15 @@ fn note_each(stood: &mut Items<Standing>, places: &[Thread], marked: &[ThreadIx]
     }
 }
 
+/// Notes that a thread spun, where one that waits for this does.
+fn note_spinner(spun: &mut bool, wait: Option<Wait>)
+    ensures { spun.new ≡ (spun.old || is_spinning wait) }
+{
+    if is_spinning(wait) {
+        *spun = true;
+    }
+}
+
 impl Threads {
     /// Places without threads.
     ///
@@ -110,6 +121,7 @@ impl Threads {
             places: Items::from_vec(places),
             stood: Items::from_vec(stood),
             marked: Bounded::new(alloc)?,
+            spun: false,
         })
     }
 
@@ -130,6 +142,13 @@ impl Threads {
         }
     }
 
+    /// Whether a thread may spin here: one that did was put here once. Else none spins.
+    pub fn may_spin(&self) -> bool
+        ensures { NoneSpins result self.now.places }
+    {
+        self.spun
+    }
+
     /// How a thread stood when the state settled last.
     pub fn stood(&self, thread: ThreadIx) -> Standing
         ensures { result ≡ nth_standing self.now.stood thread }
@@ -142,12 +161,16 @@ impl Threads {
         ensures { self.new ≡ record self.old { places = with_nth self.old.places index thread } }
     {
         self.places.set(index.at() as usize - 1, thread);
+        // Read where it was put: a read of the argument would cost a copy of all of it.
+        let put = thread_in(self.places.as_slice(), index);
+        note_spinner(&mut self.spun, put.wait);
         mark(&mut self.marked, index);
     }
 
-    /// Puts a thread that stands as the one before it at an index.
+    /// Puts a thread that stands and waits as the one before it at an index.
     pub fn renew(&mut self, index: ThreadIx, thread: Thread)
-        requires { own_standing thread ≡ own_standing (nth no_thread self.old.places index) }
+        requires stands { own_standing thread ≡ own_standing (nth no_thread self.old.places index) }
+        requires waits { thread.wait ≡ (nth no_thread self.old.places index).wait }
         ensures { self.new ≡ record self.old { places = with_nth self.old.places index thread } }
     {
         self.places.set(index.at() as usize - 1, thread);

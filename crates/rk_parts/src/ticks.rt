@@ -1,6 +1,7 @@
 //! The present tick, which all nine parts have.
 
 ghost use Rattle.std.specs.Prelude.{◌≡◌, ◌<◌, ◌+◌, ℕ, map};
+ghost use Rattle.rk_parts.specs.Hosted.{AreHosted};
 ghost use Rattle.rk_parts.specs.Joined.{present_of, plain_of};
 ghost use Rattle.rk_parts.specs.Noted.{AreNoted};
 ghost use Rattle.rk_parts.specs.Whole.{AreWhole, at_tick, group_at_tick};
@@ -43,6 +44,7 @@ pub fn pass_tick(all: &mut AllParts)
     ensures passed { plain_of all.new ≡ record (plain_of all.old) { present = present_of all.old.clusters + 1 } }
     ensures whole { AreWhole all.new }
     ensures noted { (count : ℕ) → AreNoted count all.old.clusters → AreNoted count all.new.clusters }
+    ensures hosted { AreHosted all.old.clusters → AreHosted all.new.clusters }
     ensures scenario { all.new.scenario ≡ all.old.scenario }
 {
     let tick = present(&all.clusters) + 1;

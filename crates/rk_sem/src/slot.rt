@@ -4,7 +4,7 @@ ghost use Rattle.rk_model.specs.declared.status.Status.TheVariants.{Successful};
 ghost use Rattle.rk_model.specs.Lists.{has};
 ghost use Rattle.rk_model.specs.Queues.{clusters, threads, waits_in, first_of, ended, IsQueue};
 ghost use Rattle.rk_model.specs.State.{no_semaphore};
-ghost use Rattle.rk_model.specs.Directives.Semaphores.{is_binary, is_free, is_full, owns, nested, taken, unnested, given_to, handed, freed, flushed, new_semaphore, after_deleting, with_prio_of};
+ghost use Rattle.rk_model.specs.Directives.Semaphores.{is_binary, is_mrsp, is_free, is_full, owns, nested, taken, unnested, given_to, handed, freed, flushed, new_semaphore, after_deleting, with_prio_of};
 ghost use Rattle.rk_model.specs.Directives.Waits.{bare, with_waiter, without_waiter};
 ghost use Rattle.rk_sem.specs.SemaphoreCalls.{obtained, reply_to_obtain, released, reply_to_release, serves, woken_by_release, woken_by_flush, reply_to_remove, woken_by_remove};
 
@@ -84,6 +84,16 @@ impl Slot {
         match self.semaphore {
             None => None,
             Some(semaphore) => semaphore.owner,
+        }
+    }
+
+    /// Whether those that wait for it spin: it is a MrsP one.
+    pub(crate) fn spins(&self) -> bool
+        ensures { result ≡ is_mrsp self.now.protocol }
+    {
+        match self.semaphore {
+            None => false,
+            Some(semaphore) => semaphore.protocol.is_mrsp(),
         }
     }
 

@@ -81,6 +81,14 @@ impl SemStore {
         self.slot(index).owner()
     }
 
+    /// Whether those that wait for a semaphore spin: it is a MrsP one.
+    pub fn spins(&self, index: u16) -> bool
+        requires { IsOfGroup self.now.group index }
+        ensures { result ≡ is_mrsp (stored_at no_semaphore self.now index).protocol }
+    {
+        self.slot(index).spins()
+    }
+
     /// Whether a thread of a cluster waits for a semaphore.
     pub fn waits_from(&self, index: u16, cluster: u8) -> bool
         requires { IsOfGroup self.now.group index }

@@ -30,7 +30,7 @@ use Rattle.rk_model.specs.Directives.Events.{seized, left_of, with_pending, with
 use Rattle.rk_model.specs.Directives.Barriers.{most_refusal, barrier_create, barrier_ident, end_at, is_full, barrier_wait, barrier_release, without_barrier, barrier_delete}
 use Rattle.rk_model.specs.Directives.Partitions.{is_out, is_in_use, memory_refusal, partition_create, partition_ident, taken_first, partition_get, partition_return, partition_delete}
 use Rattle.rk_model.specs.Directives.Periods.{is_awaited}
-use Rattle.rk_model.specs.Directives.Semaphores.{is_owned, Obtaining, Nests, Takes, NotObtained, Enters, Releasing, NotReleased, Unnests, Serves, Frees, handed_to, flushed, up_to_date, semaphore_create, semaphore_ident, obtained_at, semaphore_obtain, served_at, released_at, semaphore_release, emptied_at, semaphore_flush, without_semaphore, semaphore_delete, has_obtained}
+use Rattle.rk_model.specs.Directives.Semaphores.{is_mrsp, is_owned, Obtaining, Nests, Takes, NotObtained, Enters, Releasing, NotReleased, Unnests, Serves, Frees, handed_to, flushed, up_to_date, semaphore_create, semaphore_ident, obtained_at, semaphore_obtain, served_at, released_at, semaphore_release, emptied_at, semaphore_flush, without_semaphore, semaphore_delete, has_obtained}
 use Rattle.rk_model.specs.Steps.{directive, back}
 use Rattle.rk_model.proofs.BooleanLemmas.{equal_test, or_back, neither_back}
 use Rattle.rk_directives.specs.Calls.{IsActing}
@@ -194,7 +194,7 @@ seized_awaits pending got (Some ForTime) is = refl
 seized_awaits pending got (Some (ForEvents set all)) is = refl
 seized_awaits pending got (Some (AtBarrier i)) is = refl
 seized_awaits pending got (Some (ForPeriod i)) is = let no : ⊥ = cc in absurd no
-seized_awaits pending got (Some (ForSemaphore i)) is = let no : ⊥ = cc in absurd no
+seized_awaits pending got (Some (ForSemaphore i spins)) is = let no : ⊥ = cc in absurd no
 
 seized_keeps : (k : Plain) (u pending : ℕ) (got : Option ℕ) → ((n : ℕ) → got ≡ Some n → awaits (thread_at k u).wait ≡ None) → KeepsPeriods k (with_seized k u pending got)
 seized_keeps k u pending None none = keeps_same k
@@ -231,7 +231,7 @@ at_barrier (Some ForTime) i h = refl
 at_barrier (Some (ForEvents set all)) i h = refl
 at_barrier (Some (AtBarrier j)) i h = refl
 at_barrier (Some (ForPeriod j)) i h = absurd (false≢true h)
-at_barrier (Some (ForSemaphore j)) i h = absurd (false≢true h)
+at_barrier (Some (ForSemaphore j spins)) i h = absurd (false≢true h)
 
 -- nor does who stands in its queue
 queue_awaits : (k : Plain) (i t : ℕ) → IsSound k → 0 < times t (barrier_at k i).arrivals → awaits (thread_at k t).wait ≡ None
@@ -270,7 +270,7 @@ for_semaphore (Some ForTime) i h = refl
 for_semaphore (Some (ForEvents set all)) i h = refl
 for_semaphore (Some (AtBarrier j)) i h = absurd (false≢true h)
 for_semaphore (Some (ForPeriod j)) i h = absurd (false≢true h)
-for_semaphore (Some (ForSemaphore j)) i h = refl
+for_semaphore (Some (ForSemaphore j spins)) i h = refl
 
 -- nor does who stands in its queue
 waiter_awaits : (k : Plain) (i t : ℕ) → IsSound k → 0 < times t (waiting (semaphore_at k i)) → awaits (thread_at k t).wait ≡ None
@@ -286,7 +286,7 @@ obtaining_keeps : (k : Plain) (t i : ℕ) (obtaining : Obtaining) → (thread_at
 obtaining_keeps k t i Nests free = keeps_done k _ _ _ _ (keeps_beside k _ refl refl refl refl)
 obtaining_keeps k t i Takes free = keeps_done k _ _ _ _ (keeps_beside k _ refl refl refl refl)
 obtaining_keeps k t i (NotObtained status) free = keeps_refused k status
-obtaining_keeps k t i (Enters ticks) free = keeps_waiting k _ (keeps_limited k t (ForSemaphore i) ticks refl free)
+obtaining_keeps k t i (Enters ticks) free = keeps_waiting k _ (keeps_limited k t (ForSemaphore i (is_mrsp (semaphore_at k i).protocol)) ticks refl free)
 
 pub semaphore_obtain_keeps : (k : Plain) (t : ℕ) (id : Target) (wish : Wish) → (thread_at k t).wait ≡ None → LeavesPeriods k (semaphore_obtain k t id wish)
 semaphore_obtain_keeps k t id wish free = keeps_found k (object_named k t Semaphore id) _ (λ i _. obtaining_keeps k t i _ free)

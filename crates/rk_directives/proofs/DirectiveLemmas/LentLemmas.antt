@@ -21,7 +21,7 @@ use Rattle.rk_model.specs.Directives.Objects.{has_begun, without_object}
 use Rattle.rk_model.specs.declared.entry.Answer.{Answer}
 use Rattle.rk_model.specs.declared.entry.Answer.TheVariants as told
 use Rattle.rk_model.specs.Directives.Outcomes.{Outcome, Refused, Gone, Waiting, done, on_found, answer_of, changed}
-use Rattle.rk_model.specs.Directives.Waits.{start_wait, start_limited, begin_limited, stop_wait, end_wait}
+use Rattle.rk_model.specs.Directives.Waits.{object_of_wait, start_wait, start_limited, begin_limited, stop_wait, end_wait}
 use Rattle.rk_model.specs.Directives.Semaphores.{has_obtained}
 use Rattle.rk_model.specs.Directives.Tasks.{task_named, has_created, task_removed, task_delete, without_task}
 use Rattle.rk_parts.specs.declared.parts.ClusterPart.{ClusterPart}
@@ -106,16 +106,16 @@ stopped_lives old mid new t reply cancelled puts u =
     ∙ ap (λ (ts : List Thread). has_begun (nth no_thread ts u).life) cancelled.threads
 
 -- a thread has left its queue, and waits no longer: its wait has ended
-pub ended : (s : Scenario) (old new : List ClusterPart) (groups groups' : List GroupPart) (t : ℕ) (wait : Option Wait) (reply : Reply) → wait ≡ (thread_lent old t).wait → Leaves groups t wait groups' → Becomes s (λ k. stop_wait k t reply) old new → BecomesBoth s (λ k. end_wait k t reply) old groups new groups'
+pub ended : (s : Scenario) (old new : List ClusterPart) (groups groups' : List GroupPart) (t : ℕ) (wait : Option Wait) (reply : Reply) → wait ≡ (thread_lent old t).wait → Leaves groups t (object_of_wait wait) groups' → Becomes s (λ k. stop_wait k t reply) old new → BecomesBoth s (λ k. end_wait k t reply) old groups new groups'
 ended s old new groups groups' t wait reply is leaves stops = record {
   state = λ table laid. stops.state table groups' laid ∙ ap (λ (n : Plain). stop_wait n t reply) (left_joined s table old groups groups' t wait is leaves);
   kept = stops.kept;
   framed = leaves.kept;
-  held = still_held old new groups groups' stops.held (left_owners groups groups' t wait leaves);
+  held = still_held old new groups groups' stops.held (left_owners groups groups' t (object_of_wait wait) leaves);
 }
 
 -- a thread has left its queue, its timer was cancelled, it was removed, and its name taken away
-pub deleted : (s : Scenario) (old mid new : List ClusterPart) (groups groups' : List GroupPart) (table table' : Table) (t : ℕ) (wait : Option Wait) → wait ≡ (thread_lent old t).wait → Leaves groups t wait groups' → PutsTimers old t (without_timer (OfThread t)) mid → Replaces mid t no_thread new → ((k : Plain) → with_table k table' ≡ without_object (with_table k table) Task t) → BecomesEvery s (λ k. without_task k t) old groups table new groups' table'
+pub deleted : (s : Scenario) (old mid new : List ClusterPart) (groups groups' : List GroupPart) (table table' : Table) (t : ℕ) (wait : Option Wait) → wait ≡ (thread_lent old t).wait → Leaves groups t (object_of_wait wait) groups' → PutsTimers old t (without_timer (OfThread t)) mid → Replaces mid t no_thread new → ((k : Plain) → with_table k table' ≡ without_object (with_table k table) Task t) → BecomesEvery s (λ k. without_task k t) old groups table new groups' table'
 deleted s old mid new groups groups' table table' t wait is leaves cancelled replaces removed = record {
   state = λ laid.
       replaces.state s table' groups' (laid_kept s.clusters old mid cancelled.kept laid)
@@ -125,7 +125,7 @@ deleted s old mid new groups groups' table table' t wait is leaves cancelled rep
   laid = λ laid. replaces.laid s.clusters (laid_kept s.clusters old mid cancelled.kept laid) (λ h. absurd (false≢true h));
   kept = replaces.kept ∙ ap (λ (f : Frame). f.stored) cancelled.kept;
   framed = leaves.kept;
-  held = still_held old new groups groups' (replaces.held ∙ cancelled.held) (left_owners groups groups' t wait leaves);
+  held = still_held old new groups groups' (replaces.held ∙ cancelled.held) (left_owners groups groups' t (object_of_wait wait) leaves);
 }
 
 -- a thread was put

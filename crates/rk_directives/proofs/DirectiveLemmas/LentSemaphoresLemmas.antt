@@ -132,36 +132,6 @@ obtains_now s old new groups groups' t i by wish closes reply same comes held = 
     (λ is other puts. refused_now s old new groups groups' t i IncorrectState reply (ap answered is) puts comes held)
     (λ ticks e is other puts. absurd (other (ap (λ (r : Reply). r.status) is)))
 
--- what the caller waits for
-abbrev ObtainsLater : Scenario → List ClusterPart → List ClusterPart → List GroupPart → List GroupPart → ℕ → ℕ → Caller → ℕ → Reply → Obtaining → Type 0
-ObtainsLater s old new groups groups' t i by ticks reply o =
-    reply ≡ bare (status_of_obtaining o) → reply.status ≡ Waits → PutsSemaphore groups i (after_obtaining o by (semaphore_lent groups i)) groups' → Becomes s (λ k. start_limited k t (ForSemaphore i) ticks) old new → DoesBoth s (λ k. obtained_at k t i o) told.Waiting old groups new groups'
-
-never : (status : Status) (reply : Reply) → reply ≡ bare status → (status ≡ Waits → ⊥) → reply.status ≡ Waits → ⊥
-never status reply is differs waits = differs (sym (ap (λ (r : Reply). r.status) is) ∙ waits)
-
-enters : (s : Scenario) (old new : List ClusterPart) (groups groups' : List GroupPart) (t i : ℕ) (by : Caller) (ticks : ℕ) → ((table : Table) → by ≡ caller_at (joined s table old groups) t) → PutsSemaphore groups i (with_waiter by (semaphore_lent groups i)) groups' → Becomes s (λ k. start_limited k t (ForSemaphore i) ticks) old new → DoesBoth s (λ k. Waiting (begin_limited k t (ForSemaphore i) ticks)) told.Waiting old groups new groups'
-enters s old new groups groups' t i by ticks is puts becomes = record {
-  told = λ table. refl;
-  state = λ table laid. (
-      let k = joined s table old groups in
-      becomes.state table groups' laid
-      ∙ ap (λ (n : Plain). start_limited n t (ForSemaphore i) ticks) (semaphore_joined s table old groups groups' i (with_waiter by (semaphore_lent groups i)) puts ∙ ap (λ b. put_semaphore k i (with_waiter b (semaphore_at k i))) (is table))
-      ∙ sym (enter_first k (caller_at k t) t (ForSemaphore i) ticks));
-  kept = becomes.kept;
-  framed = puts.kept;
-  held = still_held old new groups groups' becomes.held (put_owners groups groups' i (with_waiter by (semaphore_lent groups i)) puts refl);
-}
-
-obtains_later : (s : Scenario) (old new : List ClusterPart) (groups groups' : List GroupPart) (t i : ℕ) (by : Caller) (wish : Wish) (closes : Bool) (ticks : ℕ) (reply : Reply) → ticks ≡ ticks_of wish → by.thread ≡ t → by.home ≡ (thread_lent old t).home → by.prio ≡ home_prio (lent old) t → ObtainsLater s old new groups groups' t i by ticks reply (obtaining by.thread wish closes (semaphore_lent groups i))
-obtains_later s old new groups groups' t i by wish closes ticks reply limit thread home urgency = by_obtaining (ObtainsLater s old new groups groups' t i by ticks reply) by.thread wish closes (semaphore_lent groups i)
-    (λ is waits puts becomes. absurd (never Successful reply is (λ e. let no : ⊥ = cc in no) waits))
-    (λ is waits puts becomes. absurd (never Successful reply is (λ e. let no : ⊥ = cc in no) waits))
-    (λ is waits puts becomes. absurd (never Unsatisfied reply is (λ e. let no : ⊥ = cc in no) waits))
-    (λ is waits puts becomes. absurd (never IncorrectState reply is (λ e. let no : ⊥ = cc in no) waits))
-    (λ most e is waits puts becomes. subst (λ n. DoesBoth s (λ k. Waiting (begin_limited k t (ForSemaphore i) n)) told.Waiting old groups new groups') (limit ∙ ap ticks_of e)
-    (enters s old new groups groups' t i by ticks (λ table. caller_is s table old groups t by thread home urgency) puts becomes))
-
 -- a row that comes to the same in each state that the parts stand for
 same_row : (s : Scenario) (row now : Plain → Outcome) (answer : Answer) (old new : List ClusterPart) (groups groups' : List GroupPart) → ((table : Table) → now (joined s table old groups) ≡ row (joined s table old groups)) → DoesBoth s row answer old groups new groups' → DoesBoth s now answer old groups new groups'
 same_row s row now answer old new groups groups' same does = record {
@@ -171,6 +141,38 @@ same_row s row now answer old new groups groups' same does = record {
   framed = does.framed;
   held = does.held;
 }
+
+-- what the caller waits for
+abbrev ObtainsLater : Scenario → List ClusterPart → List ClusterPart → List GroupPart → List GroupPart → ℕ → ℕ → Bool → Caller → ℕ → Reply → Obtaining → Type 0
+ObtainsLater s old new groups groups' t i spins by ticks reply o =
+    reply ≡ bare (status_of_obtaining o) → reply.status ≡ Waits → PutsSemaphore groups i (after_obtaining o by (semaphore_lent groups i)) groups' → Becomes s (λ k. start_limited k t (ForSemaphore i spins) ticks) old new → DoesBoth s (λ k. obtained_at k t i o) told.Waiting old groups new groups'
+
+never : (status : Status) (reply : Reply) → reply ≡ bare status → (status ≡ Waits → ⊥) → reply.status ≡ Waits → ⊥
+never status reply is differs waits = differs (sym (ap (λ (r : Reply). r.status) is) ∙ waits)
+
+enters : (s : Scenario) (old new : List ClusterPart) (groups groups' : List GroupPart) (t i : ℕ) (spins : Bool) (by : Caller) (ticks : ℕ) → ((table : Table) → by ≡ caller_at (joined s table old groups) t) → PutsSemaphore groups i (with_waiter by (semaphore_lent groups i)) groups' → Becomes s (λ k. start_limited k t (ForSemaphore i spins) ticks) old new → DoesBoth s (λ k. Waiting (begin_limited k t (ForSemaphore i spins) ticks)) told.Waiting old groups new groups'
+enters s old new groups groups' t i spins by ticks is puts becomes = record {
+  told = λ table. refl;
+  state = λ table laid. (
+      let k = joined s table old groups in
+      becomes.state table groups' laid
+      ∙ ap (λ (n : Plain). start_limited n t (ForSemaphore i spins) ticks) (semaphore_joined s table old groups groups' i (with_waiter by (semaphore_lent groups i)) puts ∙ ap (λ b. put_semaphore k i (with_waiter b (semaphore_at k i))) (is table))
+      ∙ sym (enter_first k (caller_at k t) t (ForSemaphore i spins) ticks));
+  kept = becomes.kept;
+  framed = puts.kept;
+  held = still_held old new groups groups' becomes.held (put_owners groups groups' i (with_waiter by (semaphore_lent groups i)) puts refl);
+}
+
+obtains_later : (s : Scenario) (old new : List ClusterPart) (groups groups' : List GroupPart) (t i : ℕ) (spins : Bool) (by : Caller) (wish : Wish) (closes : Bool) (ticks : ℕ) (reply : Reply) → spins ≡ is_mrsp (semaphore_lent groups i).protocol → ticks ≡ ticks_of wish → by.thread ≡ t → by.home ≡ (thread_lent old t).home → by.prio ≡ home_prio (lent old) t → ObtainsLater s old new groups groups' t i spins by ticks reply (obtaining by.thread wish closes (semaphore_lent groups i))
+obtains_later s old new groups groups' t i spins by wish closes ticks reply spun limit thread home urgency = by_obtaining (ObtainsLater s old new groups groups' t i spins by ticks reply) by.thread wish closes (semaphore_lent groups i)
+    (λ is waits puts becomes. absurd (never Successful reply is (λ e. let no : ⊥ = cc in no) waits))
+    (λ is waits puts becomes. absurd (never Successful reply is (λ e. let no : ⊥ = cc in no) waits))
+    (λ is waits puts becomes. absurd (never Unsatisfied reply is (λ e. let no : ⊥ = cc in no) waits))
+    (λ is waits puts becomes. absurd (never IncorrectState reply is (λ e. let no : ⊥ = cc in no) waits))
+    (λ most e is waits puts becomes. subst (λ n. DoesBoth s (λ k. Waiting (begin_limited k t (ForSemaphore i (is_mrsp (semaphore_at k i).protocol)) n)) told.Waiting old groups new groups') (limit ∙ ap ticks_of e)
+    (same_row s (λ k. Waiting (begin_limited k t (ForSemaphore i spins) ticks)) (λ k. Waiting (begin_limited k t (ForSemaphore i (is_mrsp (semaphore_at k i).protocol)) ticks)) told.Waiting old new groups groups'
+    (λ table. ap (λ b. Waiting (begin_limited (joined s table old groups) t (ForSemaphore i b) ticks)) (sym spun))
+    (enters s old new groups groups' t i spins by ticks (λ table. caller_is s table old groups t by thread home urgency) puts becomes)))
 
 -- the rule, where the semaphore was found
 abbrev obtain_row : ℕ → ℕ → Wish → Plain → Outcome
@@ -194,11 +196,11 @@ obtains_at_once s old new groups groups' t i by wish owner closes reply thread o
     (obtains_now s old new groups groups' t i by wish closes reply thread comes held is other puts)
 
 -- and of one that waits.
-pub obtains_by_waiting : (s : Scenario) (old new : List ClusterPart) (groups groups' : List GroupPart) (t i : ℕ) (by : Caller) (wish : Wish) (owner : Option ℕ) (closes : Bool) (ticks : ℕ) (reply : Reply) → by.thread ≡ t → by.home ≡ (thread_lent old t).home → by.prio ≡ home_prio (lent old) t → owner ≡ (semaphore_lent groups i).owner → ((ticks : ℕ) → wish ≡ Limit ticks → closes ≡ reaches_from (lent_both old groups) owner t) → ticks ≡ ticks_of wish → reply ≡ reply_to_obtain by wish closes (semaphore_lent groups i) → reply.status ≡ Waits → PutsSemaphore groups i (obtained by wish closes (semaphore_lent groups i)) groups' → Becomes s (λ k. start_limited k t (ForSemaphore i) ticks) old new → DoesBoth s (λ k. obtained_at k t i (obtaining t wish (reaches_from k (semaphore_at k i).owner t) (semaphore_at k i))) told.Waiting old groups new groups'
-obtains_by_waiting s old new groups groups' t i by wish owner closes ticks reply thread home urgency owned reached limit is waits puts becomes =
+pub obtains_by_waiting : (s : Scenario) (old new : List ClusterPart) (groups groups' : List GroupPart) (t i : ℕ) (spins : Bool) (by : Caller) (wish : Wish) (owner : Option ℕ) (closes : Bool) (ticks : ℕ) (reply : Reply) → spins ≡ is_mrsp (semaphore_lent groups i).protocol → by.thread ≡ t → by.home ≡ (thread_lent old t).home → by.prio ≡ home_prio (lent old) t → owner ≡ (semaphore_lent groups i).owner → ((ticks : ℕ) → wish ≡ Limit ticks → closes ≡ reaches_from (lent_both old groups) owner t) → ticks ≡ ticks_of wish → reply ≡ reply_to_obtain by wish closes (semaphore_lent groups i) → reply.status ≡ Waits → PutsSemaphore groups i (obtained by wish closes (semaphore_lent groups i)) groups' → Becomes s (λ k. start_limited k t (ForSemaphore i spins) ticks) old new → DoesBoth s (λ k. obtained_at k t i (obtaining t wish (reaches_from k (semaphore_at k i).owner t) (semaphore_at k i))) told.Waiting old groups new groups'
+obtains_by_waiting s old new groups groups' t i spins by wish owner closes ticks reply spun thread home urgency owned reached limit is waits puts becomes =
     let o = obtaining by.thread wish closes (semaphore_lent groups i) in
     same_row s (λ k. obtained_at k t i o) (obtain_row t i wish) told.Waiting old new groups groups' (λ table. ap (obtained_at (joined s table old groups) t i) (comes_to old groups t i by wish owner closes thread owned reached))
-    (obtains_later s old new groups groups' t i by wish closes ticks reply limit thread home urgency is waits puts becomes)
+    (obtains_later s old new groups groups' t i spins by wish closes ticks reply spun limit thread home urgency is waits puts becomes)
 
 -- the owner after an obtain, where it is another, is the caller
 pub obtained_owner : (by : Caller) (wish : Wish) (closes : Bool) (sem : SemaphoreState) (t : ℕ) → (obtained by wish closes sem).owner ≡ Some t → (sem.owner ≡ Some t → ⊥) → by.thread ≡ t

@@ -23,7 +23,7 @@ use Rattle.rk_model.specs.Names.{taken as taken_names}
 use Rattle.rk_model.specs.Queues.{Queue, threads, without, served_by, first_of}
 use Rattle.rk_model.specs.State.{Plain, SemaphoreState, objects_of, no_thread, no_semaphore, thread_at, semaphore_at, put_semaphore}
 use Rattle.rk_model.specs.Directives.Objects.{has_begun, object_named, put_names, without_object}
-use Rattle.rk_model.specs.Directives.Semaphores.{is_binary, owned_by, free_semaphore, new_semaphore, is_owned, owns, is_free, Obtaining, Nests, Takes, NotObtained, Enters, nesting_by, obtaining_later, nested, taken, Releasing, NotReleased, Unnests, Serves, Frees, releasing_to, releasing, unnested, handed_to, freed, freed_by, is_full, flushed, with_present_prio, up_to_date_by, up_to_date, semaphore_create, semaphore_ident, reaches_from, obtained_at, semaphore_obtain, served_at, released_at, semaphore_release, emptied_at, semaphore_flush, without_semaphore, semaphore_delete}
+use Rattle.rk_model.specs.Directives.Semaphores.{is_binary, is_mrsp, owned_by, free_semaphore, new_semaphore, is_owned, owns, is_free, Obtaining, Nests, Takes, NotObtained, Enters, nesting_by, obtaining_later, nested, taken, Releasing, NotReleased, Unnests, Serves, Frees, releasing_to, releasing, unnested, handed_to, freed, freed_by, is_full, flushed, with_present_prio, up_to_date_by, up_to_date, semaphore_create, semaphore_ident, reaches_from, obtained_at, semaphore_obtain, served_at, released_at, semaphore_release, emptied_at, semaphore_flush, without_semaphore, semaphore_delete}
 use Rattle.rk_model.specs.Directives.Waits.{Object, OfBarrier, OfSemaphore, object_of_wait, is_for, arrivals_in, stop_wait, stop_each, bare}
 use Rattle.rk_model.specs.Scheduling.Chains.{ends_by, reaches, owner_awaited, waits_on}
 use Rattle.rk_model.proofs.BooleanLemmas.{equal_test, same_number, or_front, or_back}
@@ -231,11 +231,11 @@ steps_within k sound u v here e = by (thread_at k u).wait e where
   by (Some (ForEvents set all)) e = let no : ⊥ = cc in absurd no
   by (Some (AtBarrier j)) e = let no : ⊥ = cc in absurd no
   by (Some (ForPeriod j)) e = let no : ⊥ = cc in absurd no
-  by (Some (ForSemaphore j)) e = let w = lives_within k.threads v (sound.chained.owners j v e) in (omega (arith, w.0), w.1)
+  by (Some (ForSemaphore j spins)) e = let w = lives_within k.threads v (sound.chained.owners j v e) in (omega (arith, w.0), w.1)
 
 -- a caller may wait for a semaphore whose owner's chain doesn't reach it
-may_join : (k : Plain) (t i : ℕ) → IsCaller k t → (is_owned (semaphore_at k i) && reaches_from k (semaphore_at k i).owner t) ≡ false → MayJoin k.semaphores k.threads t (Some (ForSemaphore i))
-may_join k t i caller apart v owner = subst (λ (step : ℕ → Option ℕ). IsClearOf step v t) same (record { most = length k.threads; ends = ends; unmet = unmet }) where
+may_join : (k : Plain) (t i : ℕ) (spins : Bool) → IsCaller k t → (is_owned (semaphore_at k i) && reaches_from k (semaphore_at k i).owner t) ≡ false → MayJoin k.semaphores k.threads t (Some (ForSemaphore i spins))
+may_join k t i spins caller apart v owner = subst (λ (step : ℕ → Option ℕ). IsClearOf step v t) same (record { most = length k.threads; ends = ends; unmet = unmet }) where
   sound : IsSound k
   sound = caller.acts.sound
 
@@ -269,7 +269,7 @@ taken_gentle k t i caller lives = by (is_binary (semaphore_at k i).kind) where
 later_fair : (k : Plain) (t i : ℕ) (wish : Wish) → IsCaller k t → (semaphore_at k i).live ≡ true → IsFair k t (obtained_at k t i (obtaining_later wish (reaches_from k (semaphore_at k i).owner t) (semaphore_at k i)))
 later_fair k t i NoWait caller lives = fair_refused k t _
 later_fair k t i (Limit ticks) caller lives = obtained_if k t i (is_owned (semaphore_at k i) && reaches_from k (semaphore_at k i).owner t) (NotObtained IncorrectState) (Enters ticks) (λ _. fair_refused k t _)
-    (λ apart. fair_waiting k t _ (gentle_limited k t (ForSemaphore i) ticks caller lives refl (λ _. refl) (may_join k t i caller apart)))
+    (λ apart. fair_waiting k t _ (gentle_limited k t (ForSemaphore i (is_mrsp (semaphore_at k i).protocol)) ticks caller lives refl (λ _. refl) (may_join k t i (is_mrsp (semaphore_at k i).protocol) caller apart)))
 
 pub semaphore_obtain_fair : (k : Plain) (t : ℕ) (id : Target) (wish : Wish) → IsCaller k t → IsFair k t (semaphore_obtain k t id wish)
 semaphore_obtain_fair k t id wish caller = fair_found k t (object_named k t Semaphore id) _ (λ i is.

@@ -1,7 +1,7 @@
 use Rattle.std.proofs.Common.{◌<◌, ◌≤◌, length, arith, sym, ◌∙◌}
 use Rattle.rk_parts.specs.Joined.{threads_of}
 use Rattle.rk_parts.proofs.PutLemmas.{length_threads}
-use Rattle.rk_directives.specs.HeldChains.{waits_on_holder}
+use Rattle.rk_parts.specs.HeldChains.{waits_on_holder}
 use Rattle.rk_directives.proofs.WaitChainLemmas.{walk_meets, walk_ends, walk_goes_on, walk_past}
 use Rattle.rk_directives.proofs.chains.reaches.Goals as goal
 

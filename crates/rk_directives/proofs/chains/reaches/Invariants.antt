@@ -1,7 +1,7 @@
 use Rattle.std.proofs.Common.{◌≡◌, ◌-◌, length}
 use Rattle.rk_model.specs.Scheduling.Chains.{reaches}
 use Rattle.rk_parts.specs.Joined.{threads_of}
-use Rattle.rk_directives.specs.HeldChains.{waits_on_holder}
+use Rattle.rk_parts.specs.HeldChains.{waits_on_holder}
 use Rattle.rk_directives.proofs.chains.reaches.Given as goal
 
 abbrev pub invariant-loop-step : goal.invariant-loop-step

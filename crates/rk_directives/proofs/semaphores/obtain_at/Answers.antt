@@ -28,7 +28,7 @@ note-requires-clause-lives c = λ t is other.
 -- the caller waits
 pub returns-in-Waits : goal.returns-in-Waits
 returns-in-Waits c = λ s.
-    obtains_by_waiting s c.args.clusters.now c.start_limited.new.clusters c.args.groups.now c.obtain-reply.new.groups c.args.caller c.args.index c.caller_of-by.result c.args.wish c.owner.result c.closes-closes.result c.limit_of.result c.obtain-reply.result
+    obtains_by_waiting s c.args.clusters.now c.start_limited.new.clusters c.args.groups.now c.obtain-reply.new.groups c.args.caller c.args.index c.spins-spins.result c.caller_of-by.result c.args.wish c.owner.result c.closes-closes.result c.limit_of.result c.obtain-reply.result c.spins-spins.ensures
     c.caller_of-by.ensures.thread c.caller_of-by.ensures.home c.caller_of-by.ensures.prio c.owner.ensures (λ ticks e. c.closes-closes.ensures ticks e c.args.groups.now c.requires.held) c.limit_of.ensures c.obtain-reply.ensures.reply c.in-Waits.is c.obtain-reply.ensures.semaphore (c.start_limited.ensures s)
 
 -- or doesn't

@@ -1,5 +1,5 @@
 use Rattle.std.proofs.Common.{◌≡◌, Some, sym, subst, arith}
-use Rattle.rk_model.specs.declared.state.Wait.TheVariants.{AtBarrier}
+use Rattle.rk_model.specs.Directives.Waits.{OfBarrier}
 use Rattle.rk_groups.specs.Groups.{group_in, Leaves}
 use Rattle.rk_groups.proofs.GroupLemmas.{of_group, as_left, leaves_found, leaves_nowhere, leaves_outside}
 use Rattle.rk_groups.proofs.barriers.leave_barrier.Goals.{then-index-lt1-via-then-index-lt1, then-index-lt1-via-else-index-lt1+then-index-gt-MOST_OBJECTS}
@@ -21,7 +21,7 @@ returns-in-Some c =
     let i = c.args.index in
     let t = c.args.thread in
     let found : group_in groups i ≡ Some c.in-Some.at = sym c.in-Some.ensures.place in
-    subst (Leaves groups t (Some (AtBarrier i))) (sym (as_left groups c.in-Some.at i t c.index-groups-at.result c.leave_in.new.barriers found c.leave_in.ensures))
+    subst (Leaves groups t (Some (OfBarrier i))) (sym (as_left groups c.in-Some.at i t c.index-groups-at.result c.leave_in.new.barriers found c.leave_in.ensures))
     (leaves_found groups c.in-Some.at i t (omega (arith, c.if-index-lt1.false)) (omega (arith, c.if-index-gt-MOST_OBJECTS.false)) found c.in-Some.ensures.store)
 
 pub returns-in_default : goal.returns-in_default

@@ -32,7 +32,7 @@ returns-in-Some c =
     let k = plain_of all in
     let x = c.in-Some.timer in
     let first = c.in-Some.ensures.first ∙ ap head_of (due_lent all c.args.cluster c.requires.ready c.requires.cluster) in
-    let done = fired all c.take_due_of.new.clusters c.rung.new.clusters c.settle_parts.new.clusters c.rung.new.groups c.args.cluster x c.requires.ready c.requires.cluster first c.in-Some.ensures.taken (c.rung.ensures all.scenario) c.settle_parts.ensures in
+    let done = fired all c.take_due_of.new.clusters c.rung.new.clusters c.host_parts.new.clusters c.rung.new.groups c.args.cluster x c.requires.ready c.requires.cluster first c.in-Some.ensures.taken (c.rung.ensures all.scenario) (c.host_parts.ensures.kept ∙ c.settle_parts.ensures) c.host_parts.ensures.hosted in
     record {
       fires = fires_some k _ c.args.cluster _ x first done.state refl;
       ready = done.ready;

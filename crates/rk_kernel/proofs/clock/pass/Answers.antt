@@ -30,5 +30,6 @@ returns c =
         whole = c.pass_tick.ensures.whole;
         sound = subst IsSound (sym passed) (sound_pass (plain_of old) c.requires.ready.sound c.requires.below);
         noted = subst (λ (s : Scenario). AreNoted (length s.clusters) new.clusters) (sym same) (c.pass_tick.ensures.noted (length old.scenario.clusters) c.charge_all.ensures.noted);
+        hosted = c.pass_tick.ensures.hosted c.charge_all.ensures.hosted;
       };
     }

@@ -11,9 +11,9 @@ least_of-requires-clause-few c =
 pub returns-in-Some-clause-step : goal.returns-in-Some-clause-step
 returns-in-Some-clause-step c =
     let all = c.args.all.now in
-    (sym (c.least_of.ensures.least all.table.names all.groups) ∙ ap seat_of c.in-Some.is, refl)
+    (sym (c.least_of.ensures.least all.table.names all.groups c.requires.ready.whole.held) ∙ ap seat_of c.in-Some.is, refl)
 
 pub tick_quiet-requires-clause-quiet : goal.tick_quiet-requires-clause-quiet
 tick_quiet-requires-clause-quiet c =
     let all = c.args.all.now in
-    sym (c.least_of.ensures.least all.table.names all.groups) ∙ ap seat_of c.in-None.is
+    sym (c.least_of.ensures.least all.table.names all.groups c.requires.ready.whole.held) ∙ ap seat_of c.in-None.is

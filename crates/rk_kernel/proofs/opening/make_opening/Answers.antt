@@ -20,5 +20,5 @@ returns c =
       held = c.start_all.ensures.held;
       named = c.name_all.ensures ∙ ap (λ (inits : List Init). (let table : Table = record no_objects { tasks = begun_names inits } in table)) c.as_slice.ensures;
     } in
-    let is = opened s all c.start_all.new.clusters c.settle_parts.new.clusters c.name_all.new.table c.requires stand begin c.settle_parts.ensures in
+    let is = opened s all c.start_all.new.clusters c.host_anew.new.clusters c.name_all.new.table c.requires stand begin (c.host_anew.ensures.kept ∙ c.settle_parts.ensures) c.host_anew.ensures.hosted in
     record { opening = is.opening; ready = is.ready }

@@ -13,7 +13,7 @@ use Rattle.rk_kernel.proofs.CallerLemmas.{acting_of}
 use Rattle.rk_directives.proofs.KeptHoldingLemmas.{still_held}
 use Rattle.rk_directives.proofs.DirectiveLemmas.LentLemmas.{laid_kept}
 use Rattle.rk_directives.proofs.DirectiveLemmas.ActionLemmas.{action_done, line_after, bodies_after, lives_after, followed}
-use Rattle.rk_kernel.proofs.PartsSettledLemmas.{IsChanged, settled}
+use Rattle.rk_kernel.proofs.PartsSettledLemmas.{as_settled, IsChanged, settled}
 use Rattle.rk_kernel.proofs.steps.act_by.Goals as goal
 
 pub action-answer-requires-clause-acts : goal.action-answer-requires-clause-acts
@@ -53,7 +53,7 @@ returns c =
       rest = c.action-answer.ensures.rest;
     } in
     let last = c.last_of-last.ensures ∙ ap (λ (a : Answer). last_of a) c.action-answer.ensures.told in
-    let after = settled all mid c.settle_parts.new.clusters (after_outcome k t o) (option_to_list c.last_of-last.result) c.requires.ready changed c.settle_parts.ensures in
+    let after = settled all mid c.host_parts.new.clusters (after_outcome k t o) (option_to_list c.last_of-last.result) (as_settled all c.requires.ready) changed (c.host_parts.ensures.kept ∙ c.settle_parts.ensures) c.host_parts.ensures.hosted in
     record {
       entry = search rules;
       next = after.state ∙ ap (λ (l : Option ℕ). settle k (after_outcome k t o) (option_to_list l)) last;

@@ -10,7 +10,8 @@ pub renew-requires : goal.renew-requires
 renew-requires c =
     let parts = c.args.clusters.now in
     let found : found_in parts c.args.index ≡ Some c.in-Some.at = sym c.place_of.ensures.place ∙ c.in-Some.is in
-    c.requires.stands ∙ ap own_standing (thread_found parts c.in-Some.at c.args.index c.index-clusters-at.result (omega arith) (omega arith) found)
+    let there = thread_found parts c.in-Some.at c.args.index c.index-clusters-at.result (omega arith) (omega arith) found in
+    record { stands = c.requires.stands ∙ ap own_standing there; waits = c.requires.waits ∙ ap (λ x. x.wait) there }
 
 pub returns-in-Some : goal.returns-in-Some
 returns-in-Some c =

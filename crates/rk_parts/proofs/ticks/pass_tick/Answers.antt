@@ -1,6 +1,8 @@
 use Rattle.std.proofs.Common.{◌≡◌, ◌+◌, map, ap, sym, ◌∙◌, subst, refl}
 use Rattle.rk_parts.specs.declared.parts.AllParts.{AllParts}
 use Rattle.rk_parts.specs.Noted.{AreNoted}
+use Rattle.rk_parts.specs.Hosted.{AreHosted}
+use Rattle.rk_parts.proofs.HostedLemmas.{hosted_tick}
 use Rattle.rk_parts.specs.Joined.{present_of}
 use Rattle.rk_parts.specs.Whole.{at_tick, group_at_tick}
 use Rattle.rk_parts.proofs.TickPartLemmas.{state_tick, whole_tick, noted_tick}
@@ -17,6 +19,7 @@ returns c =
     record {
       passed = state_tick n old new c.requires.whole clusters groups refl refl;
       whole = whole_tick n old new c.requires.whole clusters groups tick refl;
+      hosted = λ hosted. subst AreHosted (sym clusters) (hosted_tick n old.clusters hosted);
       noted = λ count noted. subst (AreNoted count) (sym clusters) (noted_tick n count old.clusters noted);
       scenario = refl;
     }

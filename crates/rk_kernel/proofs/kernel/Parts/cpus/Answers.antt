@@ -1,5 +1,5 @@
 use Rattle.std.proofs.Common.{ap, sym, ◌∙◌}
-use Rattle.rk_model.specs.Scheduling.Running.{cpu_count}
+use Rattle.rk_model.specs.Scheduling.Seats.{cpu_count}
 use Rattle.rk_kernel.proofs.PartsSettledLemmas.{count_processors, few_processors}
 use Rattle.rk_kernel.proofs.kernel.Parts.cpus.Goals as goal
 

@@ -13,7 +13,7 @@ holder_awaited held (Some ForTime) = None
 holder_awaited held (Some (ForEvents set all)) = None
 holder_awaited held (Some (AtBarrier i)) = None
 holder_awaited held (Some (ForPeriod i)) = None
-holder_awaited held (Some (ForSemaphore i)) = holder held i
+holder_awaited held (Some (ForSemaphore i spins)) = holder held i
 
 -- The thread on which a thread waits: the one that holds the semaphore for which it waits, if one does.
 abbrev pub waits_on_holder : List ClusterPart → ℕ → Option ℕ
