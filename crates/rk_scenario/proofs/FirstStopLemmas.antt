@@ -62,7 +62,7 @@ record StopsAt (d : Draft) (n : ℕ) (lines : List (List ℕ)) (fault : Fault) :
   ends : length lines ≤ at → at ≡ length lines
 
 -- the fault of an end is at the line that would follow
-pub end_line : (p : Phase) (s : Scenario) (n : ℕ) (fault : Fault) → at_end p s n ≡ Faults fault → fault.line ≡ n
+end_line : (p : Phase) (s : Scenario) (n : ℕ) (fault : Fault) → at_end p s n ≡ Faults fault → fault.line ≡ n
 end_line Start s n fault e = cc
 end_line Headed s n fault e = cc
 end_line Clustered s n fault e = cc
@@ -81,7 +81,7 @@ refused_reads (Ok next) why n rest s is e = absurd cc
 refused_reads (Err other) why n rest s is e = absurd cc
 
 -- the verdict behind a line that was taken is that on what follows
-pub taken_reads : (r : Result Draft ScenarioWhy) (next : Draft) (n : ℕ) (rest : Draft → Verdict) (v : Verdict) → r ≡ Ok next → goes_on r n rest ≡ v → rest next ≡ v
+taken_reads : (r : Result Draft ScenarioWhy) (next : Draft) (n : ℕ) (rest : Draft → Verdict) (v : Verdict) → r ≡ Ok next → goes_on r n rest ≡ v → rest next ≡ v
 taken_reads (Ok other) next n rest v is e = let same : other ≡ next = cc in ap rest (sym same) ∙ e
 taken_reads (Err why) next n rest v is e = absurd cc
 

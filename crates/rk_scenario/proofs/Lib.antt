@@ -8,3 +8,6 @@ pub mod CompletenessLemmas
 pub mod TextLemmas
 pub mod FirstStopLemmas
 pub mod ReasonLemmas
+pub mod OperandReasonLemmas
+pub mod LineReasonLemmas
+pub mod PlaceLemmas

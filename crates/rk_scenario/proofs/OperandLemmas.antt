@@ -5,17 +5,17 @@ use Rattle.std.specs.Str.{bytes_eq}
 use Rattle.rk_model.specs.declared.forms.TheConstants.{FORMS}
 use Rattle.rk_model.specs.declared.scenario.Op.TheVariants.{Work}
 use Rattle.rk_model.specs.declared.scenario.Op.{Op}
-use Rattle.rk_model.specs.declared.scenario.ScenarioWhy.TheVariants.{NotYetBuilt}
+use Rattle.rk_model.specs.declared.scenario.ScenarioWhy.TheVariants.{Word}
 use Rattle.rk_model.specs.Text.Forms.{Operand, Value, Makes, Form, Row, form_of, word_in, word_of, form_from, form_in}
 use Rattle.rk_model.specs.Text.Words.{var_of, semaphore_kind_of, order_of, protocol_of}
 use Rattle.rk_model.specs.Text.Scenarios.{Known, IsSpelled, Spell, IsOfForm, IsOp, body_known}
 use Rattle.rk_model.specs.Text.Reading.{var_operand, start_operand, semaphore_kind_operand, order_operand, protocol_operand, operand_of, fits, made_of, form_line, line_like, op_line, is_end}
-use Rattle.rk_scenario.proofs.SpellingLemmas.{bind_ok, then_ok, ok_is, text_is, number_ok, number_is, known_ok, known_is, id_ok, id_is, address_ok, address_is, goto_ok, goto_is, name_ok, name_is, name0_ok, name0_is, either_ok, either_is, wish_ok, wish_is}
+use Rattle.rk_scenario.proofs.SpellingLemmas.{bind_ok, then_ok, ok_is, text_is, number_ok, number_is, known_ok, known_is, body_told_ok, body_told_is, id_ok, id_is, address_ok, address_is, goto_ok, goto_is, name_ok, name_is, name0_ok, name0_is, either_ok, either_is, wish_ok, wish_is}
 
 -- ---- operands
 
 -- what the machine takes as the word of an operand spells its value
-operand_ok : (known : Known) (o : Operand) (word : List ℕ) (value : Value o) → operand_of known o word ≡ Ok value → IsSpelled known o word value
+pub operand_ok : (known : Known) (o : Operand) (word : List ℕ) (value : Value o) → operand_of known o word ≡ Ok value → IsSpelled known o word value
 unfolding operand_of var_operand start_operand semaphore_kind_operand order_operand protocol_operand
 operand_ok known (Operand.Number least most) word n e = number_ok least most word n e
 operand_ok known Operand.Name word name e = name_ok word name e
@@ -23,7 +23,7 @@ operand_ok known Operand.Name0 word name e = name0_ok word name e
 operand_ok known Operand.Var word var e = known_ok (var_of word) var e
 operand_ok known Operand.Id word id e = id_ok word id e
 operand_ok known Operand.Address word address e = address_ok word address e
-operand_ok known Operand.B word body e = known_ok (body_known known.bodies known.own word) body e
+operand_ok known Operand.B word body e = body_told_ok word (body_known known.bodies known.own word) body e
 operand_ok known Operand.Earlier word n e = goto_ok known.earlier word n e
 operand_ok known Operand.Mode word all e = either_ok (codes "any") (codes "all") word all e
 operand_ok known Operand.Kind word automatic e = either_ok (codes "manual") (codes "auto") word automatic e
@@ -33,7 +33,7 @@ operand_ok known Operand.Order word order e = known_ok (order_of word) order e
 operand_ok known Operand.Protocol word protocol e = known_ok (protocol_of word) protocol e
 
 -- the machine takes each word that spells a value of an operand, as that value
-operand_is : (known : Known) (o : Operand) (word : List ℕ) (value : Value o) → IsSpelled known o word value → operand_of known o word ≡ Ok value
+pub operand_is : (known : Known) (o : Operand) (word : List ℕ) (value : Value o) → IsSpelled known o word value → operand_of known o word ≡ Ok value
 unfolding operand_of var_operand start_operand semaphore_kind_operand order_operand protocol_operand
 operand_is known (Operand.Number least most) word n h = number_is least most word n h
 operand_is known Operand.Name word name h = name_is word name h
@@ -41,7 +41,7 @@ operand_is known Operand.Name0 word name h = name0_is word name h
 operand_is known Operand.Var word var h = known_is (var_of word) var h
 operand_is known Operand.Id word id h = id_is word id h
 operand_is known Operand.Address word address h = address_is word address h
-operand_is known Operand.B word body h = known_is (body_known known.bodies known.own word) body h
+operand_is known Operand.B word body h = body_told_is word (body_known known.bodies known.own word) body h
 operand_is known Operand.Earlier word n h = goto_is known.earlier word n h
 operand_is known Operand.Mode word all h = either_is (codes "any") (codes "all") word all refl h
 operand_is known Operand.Kind word automatic h = either_is (codes "manual") (codes "auto") word automatic refl h
@@ -75,7 +75,7 @@ spell_fits known (o ∷ operands) made (word ∷ words) op h = spell_fits known 
 form_ok : (known : Known) (form : Form) (words : List (List ℕ)) (op : Op) → form_line known form words ≡ Ok op → IsOfForm known form (word_in form ∷ words) op
 unfolding form_line
 form_ok known (Row first operands made) words op e =
-    let t = then_ok (fits operands words) (made_of known operands made words) NotYetBuilt op e in
+    let t = then_ok (fits operands words) (made_of known operands made words) Word op e in
     (words, refl, made_ok known operands made words op t.1)
 
 form_is : (known : Known) (form : Form) (words : List (List ℕ)) (op : Op) → IsOfForm known form words op → (rest : List (List ℕ)) × (words ≡ word_in form ∷ rest) × (form_line known form rest ≡ Ok op)

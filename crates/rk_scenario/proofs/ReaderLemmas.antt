@@ -9,7 +9,7 @@ use Rattle.rk_model.specs.declared.scenario.Body.{Body}
 use Rattle.rk_model.specs.declared.scenario.Init.{Init}
 use Rattle.rk_model.specs.declared.scenario.Scenario.{Scenario}
 use Rattle.rk_model.specs.declared.scenario.ScenarioWhy.{ScenarioWhy}
-use Rattle.rk_model.specs.declared.scenario.ScenarioWhy.TheVariants.{Header, NotYetBuilt}
+use Rattle.rk_model.specs.declared.scenario.ScenarioWhy.TheVariants.{Header, Word, Repeated, TooMany}
 use Rattle.rk_model.specs.Text.Words.{is_body_name}
 use Rattle.rk_model.specs.Text.Scenarios.{AreDistinct, IsBody, IsInit, body_of, cpus_in}
 use Rattle.rk_model.specs.Text.Reading.{Phase, Start, Headed, Clustered, Timed, Limited, InBody, InInits, Draft, number_operand, known_at, op_line, init_operands, is_header, is_end, with_cluster, with_body, with_op, with_init, cluster_line, ticks_line, limit_line, body_line, inner_line, init_line, at_start, at_headed, at_clustered, at_timed, at_limited, at_inits, in_body, after_statement}
@@ -67,7 +67,7 @@ pub record IsSound (p : Phase) (b : Scenario) (o : Body) (words : List (List ℕ
 
 -- ---- the header
 
-header_is : (words : List (List ℕ)) → is_header words ≡ true → words ≡ codes "rtems" ∷ codes "1" ∷ []
+pub header_is : (words : List (List ℕ)) → is_header words ≡ true → words ≡ codes "rtems" ∷ codes "1" ∷ []
 unfolding is_header
 header_is [] e = absurd cc
 header_is (first ∷ []) e = absurd cc
@@ -93,8 +93,8 @@ unfolding cluster_line
 cluster_sound p b o [] next e keeps = absurd cc
 cluster_sound p b o (count ∷ []) next e keeps =
     let d = draft_at p b o in
-    let m = bind_ok (number_operand 1 8 count) (λ m. cond (has_room b.clusters m) (Ok (with_cluster d m)) (Err NotYetBuilt)) next e in
-    let t = then_ok (has_room b.clusters m.0) (Ok (with_cluster d m.0)) NotYetBuilt next m.2 in
+    let m = bind_ok (number_operand 1 8 count) (λ m. cond (has_room b.clusters m) (Ok (with_cluster d m)) (Err TooMany)) next e in
+    let t = then_ok (has_room b.clusters m.0) (Ok (with_cluster d m.0)) TooMany next m.2 in
     subst (λ (x : Draft). IsSound Headed b o (codes "cluster" ∷ count ∷ []) x) (ok_is (with_cluster d m.0) next t.1) (record {
       keeps = record {
         alone = tt;
@@ -120,7 +120,7 @@ cluster_sound p b o (count ∷ more ∷ words) next e keeps = absurd cc
 headed_sound : (p : Phase) (b : Scenario) (o : Body) (words : List (List ℕ)) (next : Draft) → at_headed (draft_at p b o) words ≡ Ok next → Keeps Clustered b o → IsSound Headed b o words next
 headed_sound p b o [] next e keeps = absurd cc
 headed_sound p b o (first ∷ operands) next e keeps =
-    let t = then_ok (bytes_eq first (codes "cluster")) (cluster_line (draft_at p b o) operands) NotYetBuilt next e in
+    let t = then_ok (bytes_eq first (codes "cluster")) (cluster_line (draft_at p b o) operands) Word next e in
     rw (text_is first (codes "cluster") t.0) (cluster_sound p b o operands next t.1 keeps)
 
 -- one cluster more may come before others
@@ -207,8 +207,8 @@ record AfterInit (b : Scenario) (o : Body) (words : List (List ℕ)) (next : Dra
 after_init_line : (p : Phase) (b : Scenario) (o : Body) (operands : List (List ℕ)) (next : Draft) → init_line (draft_at p b o) operands ≡ Ok next → AfterInit b o (codes "init" ∷ operands) next
 unfolding init_line
 after_init_line p b o operands next e =
-    let i = bind_ok (init_operands b operands) (λ init. cond (nat_lt (length b.inits) 64) (Ok (with_init (draft_at p b o) init)) (Err NotYetBuilt)) next e in
-    let r = then_ok (nat_lt (length b.inits) 64) (Ok (with_init (draft_at p b o) i.0)) NotYetBuilt next i.2 in
+    let i = bind_ok (init_operands b operands) (λ init. cond (nat_lt (length b.inits) 64) (Ok (with_init (draft_at p b o) init)) (Err TooMany)) next e in
+    let r = then_ok (nat_lt (length b.inits) 64) (Ok (with_init (draft_at p b o) i.0)) TooMany next i.2 in
     record {
       init = i.0;
       is = init_ok b operands i.0 i.1;
@@ -219,7 +219,7 @@ after_init_line p b o operands next e =
 after_init : (p : Phase) (b : Scenario) (o : Body) (words : List (List ℕ)) (next : Draft) → at_inits (draft_at p b o) words ≡ Ok next → AfterInit b o words next
 after_init p b o [] next e = absurd cc
 after_init p b o (first ∷ operands) next e =
-    let t = then_ok (bytes_eq first (codes "init")) (init_line (draft_at p b o) operands) NotYetBuilt next e in
+    let t = then_ok (bytes_eq first (codes "init")) (init_line (draft_at p b o) operands) Word next e in
     rw (text_is first (codes "init") t.0) (after_init_line p b o operands next t.1)
 
 init_keeps : (b : Scenario) (o : Body) (init : Init) → length b.inits < 64 → Keeps InInits b o → Keeps InInits (record b { inits = b.inits ++ init ∷ [] }) o
@@ -278,11 +278,11 @@ unfolding body_line
 body_sound p b o [] next e keeps = absurd cc
 body_sound p b o (name ∷ []) next e keeps =
     let open_one : Body = record { name = name; lines = [] } in
-    let third : Result Draft ScenarioWhy = cond (nat_lt (length b.bodies) 32) (Ok (draft_at InBody b open_one)) (Err NotYetBuilt) in
-    let second : Result Draft ScenarioWhy = cond (is_some (body_of b.bodies name)) (Err NotYetBuilt) third in
-    let n = else_ok (not (is_body_name name)) NotYetBuilt second next e in
-    let k = else_ok (is_some (body_of b.bodies name)) NotYetBuilt third next n.1 in
-    let r = then_ok (nat_lt (length b.bodies) 32) (Ok (draft_at InBody b open_one)) NotYetBuilt next k.1 in
+    let third : Result Draft ScenarioWhy = cond (nat_lt (length b.bodies) 32) (Ok (draft_at InBody b open_one)) (Err TooMany) in
+    let second : Result Draft ScenarioWhy = cond (is_some (body_of b.bodies name)) (Err Repeated) third in
+    let n = else_ok (not (is_body_name name)) Word second next e in
+    let k = else_ok (is_some (body_of b.bodies name)) Repeated third next n.1 in
+    let r = then_ok (nat_lt (length b.bodies) 32) (Ok (draft_at InBody b open_one)) TooMany next k.1 in
     let room : length b.bodies < 32 = ltb-true (length b.bodies) 32 r.0 in
     let named : is_body_name name ≡ true = not-false (is_body_name name) n.0 in
     subst (λ (x : Draft). IsSound Limited b o (codes "body" ∷ name ∷ []) x) (ok_is (draft_at InBody b open_one) next r.1) (record {
@@ -374,8 +374,8 @@ inner_sound : (b : Scenario) (o : Body) (words : List (List ℕ)) (next : Draft)
 unfolding inner_line
 inner_sound b o words next e keeps =
     let d = draft_at InBody b o in
-    let op = bind_ok (op_line (known_at b o) words) (λ op. cond (nat_lt (length o.lines) 1000) (Ok (with_op d op)) (Err NotYetBuilt)) next e in
-    let r = then_ok (nat_lt (length o.lines) 1000) (Ok (with_op d op.0)) NotYetBuilt next op.2 in
+    let op = bind_ok (op_line (known_at b o) words) (λ op. cond (nat_lt (length o.lines) 1000) (Ok (with_op d op)) (Err TooMany)) next e in
+    let r = then_ok (nat_lt (length o.lines) 1000) (Ok (with_op d op.0)) TooMany next op.2 in
     let room : length o.lines < 1000 = ltb-true (length o.lines) 1000 r.0 in
     subst (λ (x : Draft). IsSound InBody b o words x) (ok_is (with_op d op.0) next r.1) (record {
       keeps = record { alone = tt; clusters = keeps.clusters; cpus = keeps.cpus; bodies = keeps.bodies; distinct = keeps.distinct; fresh = keeps.fresh; lines = omega (arith, length-append o.lines (op.0 ∷ [])); inits = keeps.inits };

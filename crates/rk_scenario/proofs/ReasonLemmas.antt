@@ -1,350 +1,436 @@
--- A fault has its reason: up to the header the lines in front of it tell which, and behind the header it is always `NotYetBuilt`.
-use Rattle.std.proofs.Common.{◌≡◌, ℕ, suc, ◌+◌, ◌-◌, ◌≤◌, ◌<◌, ◌↔◌, Bool, true, false, cond, not, ◌&&◌, inl, inr, List, [], ◌∷◌, length, Option, Some, None, Result, Ok, Err, codes, refl, sym, ap, subst, ◌∙◌, arith}
-use Rattle.std.specs.Prelude.{nat_lt, nat_le, is_some}
-use Rattle.std.specs.Str.{bytes_eq}
-use Rattle.std.proofs.lemmas.Bool.{cases_Bool, false≢true, ltb-true, ltb-false}
-use Rattle.rk_model.specs.declared.scenario.Op.{Op}
-use Rattle.rk_model.specs.declared.scenario.Target.{Target}
-use Rattle.rk_model.specs.declared.scenario.Body.{Body}
-use Rattle.rk_model.specs.declared.scenario.Scenario.{Scenario}
+-- Each reason of a fault comes exactly where it is said to come.
+use Rattle.std.proofs.Common.{◌≡◌, ℕ, zero, suc, ◌+◌, ◌≤◌, Bool, true, false, cond, ◌⊎◌, inl, inr, List, [], ◌∷◌, length, take, Some, Result, Ok, Err, codes, refl, sym, ap, subst, ◌∙◌, arith}
+use Rattle.std.specs.Prelude.{nat_lt, slice_get}
+use Rattle.std.proofs.lemmas.Bool.{false≢true, false_from_ne_true, ltb-true, ltb-false, lt-ltb, le-ltb}
+use Rattle.std.proofs.Math.Seq.{take-length}
 use Rattle.rk_model.specs.declared.scenario.ScenarioWhy.{ScenarioWhy}
-use Rattle.rk_model.specs.declared.scenario.ScenarioWhy.TheVariants.{Header, TooLarge, NotYetBuilt}
-use Rattle.rk_model.specs.Text.Forms.{Operand, Makes, Form, Row, form_of, form_in}
-use Rattle.rk_model.specs.Text.Words.{lines_of, words_of, is_plain, is_skipped, number_of, name_of, name0_of, var_of, is_body_name, semaphore_kind_of, order_of, protocol_of}
-use Rattle.rk_model.specs.Text.Scenarios.{Known, body_of, body_known, cpus_in, is_target}
-use Rattle.rk_model.specs.Text.Reading.{◌>>=◌, Phase, Start, Headed, Clustered, Timed, Limited, InBody, InInits, Draft, start, within, below, given_value, named, led, id_by, number_operand, cluster_operand, var_operand, given_operand, fixed_operand, id_operand, address_operand, goto_operand, name_operand, name0_operand, body_operand, start_operand, either_operand, wish_operand, semaphore_kind_operand, order_operand, protocol_operand, operand_of, fits, made_of, form_line, line_like, op_line, is_header, is_end, known_at, cluster_line, ticks_line, limit_line, body_line, inner_line, init_operands, init_line, at_headed, at_clustered, at_timed, at_limited, at_inits, in_body, after_statement, after_words, after_line, Fault, Verdict, Faults, at_end, goes_on, verdict_from}
-use Rattle.rk_scenario.specs.TextLaws.{IsHeaderDue, FaultsHaveTheirReasons}
-use Rattle.rk_scenario.proofs.LeftLinesLemmas.{draft_at}
-use Rattle.rk_scenario.proofs.TextLemmas.{skipped_line, kept_line}
-use Rattle.rk_scenario.proofs.FirstStopLemmas.{end_line, taken_reads, size_faults}
+use Rattle.rk_model.specs.declared.scenario.ScenarioWhy.TheVariants.{Header, Word, Number, Range, UnknownName, Repeated, TooMany, MissingEnd, NotAscii, TooLarge}
+use Rattle.rk_model.specs.declared.scenario.Scenario.{Scenario}
+use Rattle.rk_model.specs.Text.Words.{lines_of, words_of, is_plain, is_skipped}
+use Rattle.rk_model.specs.Text.Reading.{Phase, Start, Headed, Clustered, Timed, Limited, InBody, InInits, Draft, start, is_header, after_statement, after_words, after_line, Fault, Verdict, Faults, at_end, goes_on, verdict_from, scenario_fault}
+use Rattle.rk_scenario.specs.Reasons.{Slot, LineKind, slots_of, kind_at, IsUnfit, AreFit, FirstUnfitIs, Lead, IsReached, IsStatement, IsOfKind, HasUnfitWord, IsNoHeader, HeaderIsMissing, WordIsWrong, NumberIsMissing, NumberIsOutOfRange, NameIsUnknown, NameIsRepeated, LineIsOneTooMany, IsOpen, EndIsMissing, ByteIsUnallowed, TextIsTooLarge, ComesExactlyWhere}
+use Rattle.rk_scenario.proofs.ReaderLemmas.{header_is}
+use Rattle.rk_scenario.proofs.FirstStopLemmas.{size_faults}
+use Rattle.rk_scenario.proofs.LineReasonLemmas.{IsWrong, IsWrongBy, Tells, statement_tells}
+use Rattle.rk_scenario.proofs.PlaceLemmas.{IsNamed, started, line_named, lead_passed, passed_lead}
 
--- ---- results without any other reason
+-- ---- what is wrong with a line
 
--- what is taken has P, and what is refused has the reason `NotYetBuilt`
-abbrev Gives : {A : Type 0} → (A → Type 0) → Result A ScenarioWhy → Type 0
-Gives P (Ok x) = P x
-Gives P (Err why) = why ≡ NotYetBuilt
+-- the header is due, and these words aren't it
+abbrev IsUnheaded : Draft → List (List ℕ) → ScenarioWhy → Type 0
+IsUnheaded d words why = (d.phase ≡ Start) × (is_header words ≡ false) × (Header ≡ why)
 
--- whatever is taken
-abbrev IsAny : {A : Type 0} → A → Type 0
-IsAny x = Unit {0}
+-- what is wrong with these words behind the header
+record IsWrongLater (d : Draft) (words : List (List ℕ)) (why : ScenarioWhy) : Type 0 where
+  header : d.phase ≡ Start → ⊥
+  first : List ℕ
+  rest : List (List ℕ)
+  words_are : words ≡ first ∷ rest
+  wrong : IsWrongBy d (kind_at d.phase first) rest why
 
--- what is refused has the reason `NotYetBuilt`
-abbrev IsRead : {A : Type 0} → Result A ScenarioWhy → Type 0
-IsRead r = Gives IsAny r
+-- what is wrong with the words of a line that isn't skipped
+abbrev AreWrong : Draft → List (List ℕ) → ScenarioWhy → Type 0
+AreWrong d words why = IsUnheaded d words why ⊎ IsWrongLater d words why
 
-if_gives : {A : Type 0} (P : A → Type 0) (b : Bool) (r t : Result A ScenarioWhy) → Gives P r → Gives P t → Gives P (cond b r t)
-if_gives P true r t first second = first
-if_gives P false r t first second = second
+-- what is wrong with a line of allowed bytes
+record IsWrongPlain (d : Draft) (text : List ℕ) (why : ScenarioWhy) : Type 0 where
+  allowed : is_plain text ≡ true
+  kept : is_skipped (words_of text) ≡ false
+  wrong : AreWrong d (words_of text) why
 
-bind_gives : {A B : Type 0} (P : B → Type 0) (r : Result A ScenarioWhy) (f : A → Result B ScenarioWhy) → IsRead r → ((x : A) → Gives P (f x)) → Gives P (r >>= f)
-bind_gives P (Ok x) f read next = next x
-bind_gives P (Err why) f read next = read
+-- what is wrong with a line
+abbrev IsWrongLine : Draft → List ℕ → ScenarioWhy → Type 0
+IsWrongLine d text why = ((is_plain text ≡ false) × (NotAscii ≡ why)) ⊎ IsWrongPlain d text why
 
--- what is taken where a test holds
-test_read : {A : Type 0} (b : Bool) (x : A) → IsRead (cond b (Ok x) (Err NotYetBuilt))
-test_read true x = tt
-test_read false x = refl
-
--- ---- operands
-
-within_read : (least most : ℕ) (o : Option ℕ) → IsRead (within least most o)
-within_read least most None = refl
-within_read least most (Some n) = test_read (nat_le least n && nat_le n most) n
-
-below_read : (count : ℕ) (o : Option ℕ) → IsRead (below count o)
-below_read count None = refl
-below_read count (Some n) = test_read (nat_lt n count) n
-
-named_read : (o : Option ℕ) → IsRead (named o)
-named_read None = refl
-named_read (Some n) = tt
-
-known_read : {X : Type 0} (o : Option X) → IsRead (given_value o)
-known_read None = refl
-known_read (Some x) = tt
-
-led_read : (earlier : List Op) (o : Option ℕ) → IsRead (led earlier o)
-led_read earlier None = refl
-led_read earlier (Some n) = test_read (is_target earlier n) n
-
-id_by_read : (o : Option ℕ) (other : Result Target ScenarioWhy) → IsRead other → IsRead (id_by o other)
-id_by_read (Some var) other read = tt
-id_by_read None other read = read
-
-number_read : (least most : ℕ) (word : List ℕ) → IsRead (number_operand least most word)
-unfolding number_operand
-number_read least most word = within_read least most (number_of word)
-
-given_read : (word : List ℕ) → IsRead (given_operand word)
-given_read word = bind_gives IsAny _ _ (number_read 0 4294967295 word) (λ bits. tt)
-
-fixed_read : (word : List ℕ) → IsRead (fixed_operand word)
-unfolding fixed_operand
-fixed_read word = if_gives IsAny (bytes_eq word (codes "self")) _ _ tt (given_read word)
-
-either_read : (first second word : List ℕ) → IsRead (either_operand first second word)
-unfolding either_operand
-either_read first second word = if_gives IsAny (bytes_eq word second) _ _ tt (test_read (bytes_eq word first) false)
-
-wish_read : (word : List ℕ) → IsRead (wish_operand word)
-unfolding wish_operand
-wish_read word = if_gives IsAny (bytes_eq word (codes "nowait")) _ _ tt (bind_gives IsAny _ _ (number_read 0 4294967295 word) (λ ticks. tt))
-
-operand_read : (known : Known) (o : Operand) (word : List ℕ) → IsRead (operand_of known o word)
-unfolding operand_of name_operand name0_operand var_operand id_operand address_operand start_operand goto_operand semaphore_kind_operand order_operand protocol_operand
-operand_read known (Operand.Number least most) word = number_read least most word
-operand_read known Operand.Name word = named_read (name_of word)
-operand_read known Operand.Name0 word = named_read (name0_of word)
-operand_read known Operand.Var word = known_read (var_of word)
-operand_read known Operand.Id word = id_by_read (var_of word) (fixed_operand word) (fixed_read word)
-operand_read known Operand.Address word = id_by_read (var_of word) (given_operand word) (given_read word)
-operand_read known Operand.B word = known_read (body_known known.bodies known.own word)
-operand_read known Operand.Earlier word = led_read known.earlier (number_of word)
-operand_read known Operand.Mode word = either_read (codes "any") (codes "all") word
-operand_read known Operand.Kind word = either_read (codes "manual") (codes "auto") word
-operand_read known Operand.Wish word = wish_read word
-operand_read known Operand.SemaphoreKind word = known_read (semaphore_kind_of word)
-operand_read known Operand.Order word = known_read (order_of word)
-operand_read known Operand.Protocol word = known_read (protocol_of word)
-
--- ---- lines of a body
-
-made_read : (known : Known) (operands : List Operand) (made : Makes operands) (words : List (List ℕ)) → IsRead (made_of known operands made words)
-made_read known [] made [] = tt
-made_read known [] made (word ∷ words) = refl
-made_read known (o ∷ operands) made [] = refl
-made_read known (o ∷ operands) made (word ∷ words) =
-    bind_gives IsAny _ _ (operand_read known o word) (λ value. made_read known operands (made value) words)
-
-form_read : (known : Known) (form : Form) (words : List (List ℕ)) → IsRead (form_line known form words)
-unfolding form_line
-form_read known (Row first operands made) words = if_gives IsAny (fits operands words) _ _ (made_read known operands made words) refl
-
-like_read : (known : Known) (o : Option Op) (words : List (List ℕ)) → IsRead (line_like known o words)
-like_read known None words = refl
-like_read known (Some op) words = form_read known (form_of op) words
-
-op_read : (known : Known) (words : List (List ℕ)) → IsRead (op_line known words)
-unfolding op_line
-op_read known [] = refl
-op_read known (first ∷ words) = like_read known (form_in first) words
-
--- ---- steps behind the header
-
--- whether the header is still to come
-abbrev is_start : Phase → Bool
-is_start Start = true
-is_start Headed = false
-is_start Clustered = false
-is_start Timed = false
-is_start Limited = false
-is_start InBody = false
-is_start InInits = false
-
--- the header was read
-abbrev IsHeaded : Draft → Type 0
-IsHeaded d = is_start d.phase ≡ false
-
-cluster_gives : (d : Draft) (operands : List (List ℕ)) → Gives IsHeaded (cluster_line d operands)
-unfolding cluster_line
-cluster_gives d [] = refl
-cluster_gives d (count ∷ []) =
-    bind_gives IsHeaded _ _ (number_read 1 8 count) (λ m. if_gives IsHeaded (nat_lt (length d.scenario.clusters) 4 && nat_le (cpus_in d.scenario.clusters + m) 8) _ _ refl refl)
-cluster_gives d (count ∷ more ∷ words) = refl
-
-ticks_gives : (d : Draft) (operands : List (List ℕ)) → Gives IsHeaded (ticks_line d operands)
-unfolding ticks_line
-ticks_gives d [] = refl
-ticks_gives d (ticks ∷ []) = bind_gives IsHeaded _ _ (number_read 0 1000000 ticks) (λ n. refl)
-ticks_gives d (ticks ∷ more ∷ words) = refl
-
-limit_gives : (d : Draft) (operands : List (List ℕ)) → Gives IsHeaded (limit_line d operands)
-unfolding limit_line
-limit_gives d [] = refl
-limit_gives d (number ∷ []) = bind_gives IsHeaded _ _ (number_read 1 1000000 number) (λ n. refl)
-limit_gives d (number ∷ more ∷ words) = refl
-
-body_gives : (d : Draft) (operands : List (List ℕ)) → Gives IsHeaded (body_line d operands)
-unfolding body_line
-body_gives d [] = refl
-body_gives d (name ∷ []) =
-    let room = if_gives IsHeaded (nat_lt (length d.scenario.bodies) 32) (Ok (record d { phase = InBody; body = record { name = name; lines = [] } })) (Err NotYetBuilt) refl refl in
-    if_gives IsHeaded (not (is_body_name name)) _ _ refl (if_gives IsHeaded (is_some (body_of d.scenario.bodies name)) _ _ refl room)
-body_gives d (name ∷ more ∷ words) = refl
-
-inner_gives : (d : Draft) (words : List (List ℕ)) → IsHeaded d → Gives IsHeaded (inner_line d words)
-unfolding inner_line
-inner_gives d words headed =
-    bind_gives IsHeaded _ _ (op_read (known_at d.scenario d.body) words) (λ op. if_gives IsHeaded (nat_lt (length d.body.lines) 1000) _ _ headed refl)
-
-init_read : (s : Scenario) (operands : List (List ℕ)) → IsRead (init_operands s operands)
-unfolding init_operands cluster_operand name_operand body_operand
-init_read s [] = refl
-init_read s (name ∷ []) = refl
-init_read s (name ∷ cluster ∷ []) = refl
-init_read s (name ∷ cluster ∷ priority ∷ []) = refl
-init_read s (name ∷ cluster ∷ priority ∷ body ∷ []) =
-    bind_gives IsAny _ _ (named_read (name_of name)) (λ called.
-    bind_gives IsAny _ _ (below_read (length s.clusters) (number_of cluster)) (λ c.
-    bind_gives IsAny _ _ (number_read 1 255 priority) (λ p.
-    bind_gives IsAny _ _ (known_read (body_of s.bodies body)) (λ b. tt))))
-init_read s (name ∷ cluster ∷ priority ∷ body ∷ more ∷ words) = refl
-
-init_gives : (d : Draft) (operands : List (List ℕ)) → Gives IsHeaded (init_line d operands)
-unfolding init_line
-init_gives d operands =
-    bind_gives IsHeaded _ _ (init_read d.scenario operands) (λ init. if_gives IsHeaded (nat_lt (length d.scenario.inits) 64) _ _ refl refl)
-
-headed_gives : (d : Draft) (words : List (List ℕ)) → Gives IsHeaded (at_headed d words)
-headed_gives d [] = refl
-headed_gives d (first ∷ operands) = if_gives IsHeaded (bytes_eq first (codes "cluster")) _ _ (cluster_gives d operands) refl
-
-clustered_gives : (d : Draft) (words : List (List ℕ)) → Gives IsHeaded (at_clustered d words)
-clustered_gives d [] = refl
-clustered_gives d (first ∷ operands) = if_gives IsHeaded (bytes_eq first (codes "ticks")) _ _ (ticks_gives d operands) (headed_gives d (first ∷ operands))
-
-inits_gives : (d : Draft) (words : List (List ℕ)) → Gives IsHeaded (at_inits d words)
-inits_gives d [] = refl
-inits_gives d (first ∷ operands) = if_gives IsHeaded (bytes_eq first (codes "init")) _ _ (init_gives d operands) refl
-
-limited_gives : (d : Draft) (words : List (List ℕ)) → Gives IsHeaded (at_limited d words)
-limited_gives d [] = refl
-limited_gives d (first ∷ operands) = if_gives IsHeaded (bytes_eq first (codes "body")) _ _ (body_gives d operands) (inits_gives d (first ∷ operands))
-
-timed_gives : (d : Draft) (words : List (List ℕ)) → Gives IsHeaded (at_timed d words)
-timed_gives d [] = refl
-timed_gives d (first ∷ operands) = if_gives IsHeaded (bytes_eq first (codes "limit")) _ _ (limit_gives d operands) (limited_gives d (first ∷ operands))
-
-in_body_gives : (d : Draft) (words : List (List ℕ)) → IsHeaded d → Gives IsHeaded (in_body d words)
-in_body_gives d words headed = if_gives IsHeaded (is_end words) _ _ refl (inner_gives d words headed)
-
-told_gives : (p : Phase) (d : Draft) (words : List (List ℕ)) → is_start p ≡ false → IsHeaded d → Gives IsHeaded (after_statement p d words)
-told_gives Start d words later headed = absurd cc
-told_gives Headed d words later headed = headed_gives d words
-told_gives Clustered d words later headed = clustered_gives d words
-told_gives Timed d words later headed = timed_gives d words
-told_gives Limited d words later headed = limited_gives d words
-told_gives InBody d words later headed = in_body_gives d words headed
-told_gives InInits d words later headed = inits_gives d words
-
-line_gives : (d : Draft) (line : List ℕ) → IsHeaded d → Gives IsHeaded (after_line d line)
-unfolding after_line after_words
-line_gives d line headed =
-    if_gives IsHeaded (is_plain line) _ _ (if_gives IsHeaded (is_skipped (words_of line)) _ _ headed (told_gives d.phase d (words_of line) headed headed)) refl
-
--- ---- faults behind the header
-
--- The fault is at the line of number n or behind it, and has the reason `NotYetBuilt`.
-record IsNotYet (n : ℕ) (fault : Fault) : Type 0 where
-  at : ℕ
-  line : fault.line ≡ n + at
-  why : fault.why ≡ NotYetBuilt
-
-end_why : (p : Phase) (s : Scenario) (n : ℕ) (fault : Fault) → at_end p s n ≡ Faults fault → is_start p ≡ false → fault.why ≡ NotYetBuilt
-end_why Start s n fault e later = absurd cc
-end_why Headed s n fault e later = cc
-end_why Clustered s n fault e later = cc
-end_why Timed s n fault e later = absurd cc
-end_why Limited s n fault e later = absurd cc
-end_why InBody s n fault e later = cc
-end_why InInits s n fault e later = absurd cc
-
-fault_parts : (n : ℕ) (why : ScenarioWhy) (fault : Fault) → Faults (record { line = n; why = why }) ≡ Faults fault → (fault.line ≡ n) × (fault.why ≡ why)
-fault_parts n why fault e = (cc, cc)
-
--- so it is where the line of number n was read, if it is on the lines behind
-not_yet_on : (r : Result Draft ScenarioWhy) (n : ℕ) (rest : Draft → Verdict) (fault : Fault) → goes_on r n rest ≡ Faults fault → Gives IsHeaded r
-    → ((next : Draft) → IsHeaded next → rest next ≡ Faults fault → IsNotYet (n + 1) fault) → IsNotYet n fault
-not_yet_on (Ok next) n rest fault e headed later = let h = later next headed e in record { at = suc h.at; line = omega (arith, h.line); why = h.why }
-not_yet_on (Err why) n rest fault e is later = let parts = fault_parts n why fault e in record { at = 0; line = omega (arith, parts.0); why = parts.1 ∙ is }
-
--- behind the header each fault is such
-not_yet : (lines : List (List ℕ)) (d : Draft) (n : ℕ) (fault : Fault) → verdict_from d n lines ≡ Faults fault → IsHeaded d → IsNotYet n fault
-not_yet [] d n fault e headed = record { at = 0; line = omega (arith, end_line d.phase d.scenario n fault e); why = end_why d.phase d.scenario n fault e headed }
-not_yet (line ∷ lines) d n fault e headed =
-    not_yet_on (after_line d line) n (λ next. verdict_from next (n + 1) lines) fault e (line_gives d line headed) (λ next on rest. not_yet lines next (n + 1) fault rest on)
-
--- ---- faults up to the header and behind it
-
--- What the reason says of a fault that reading from before the header meets in these lines, the first of which has the number n.
-record IsReason (lines : List (List ℕ)) (n : ℕ) (fault : Fault) : Type 0 where
-  at : ℕ
-  line : fault.line ≡ n + at
-  not_large : fault.why ≡ TooLarge → ⊥
-  header : (fault.why ≡ Header) ↔ IsHeaderDue lines at
-
-refused_is : (r : Result Draft ScenarioWhy) (why : ScenarioWhy) (n : ℕ) (rest : Draft → Verdict) (fault : Fault) → r ≡ Err why → goes_on r n rest ≡ Faults fault → (fault.line ≡ n) × (fault.why ≡ why)
-refused_is (Ok next) why n rest fault is e = absurd cc
-refused_is (Err other) why n rest fault is e = let same : other ≡ why = cc in let parts = fault_parts n other fault e in (parts.0, parts.1 ∙ same)
-
-unallowed_line : (d : Draft) (line : List ℕ) → is_plain line ≡ false → after_line d line ≡ Err NotYetBuilt
-unfolding after_line
-unallowed_line d line plain = rw plain refl
-
--- the header is wanting at the first of these lines
-header_there : (fault : Fault) (n : ℕ) (line : List ℕ) (lines : List (List ℕ)) → fault.line ≡ n → fault.why ≡ Header → is_plain line ≡ true → IsReason (line ∷ lines) n fault
-header_there fault n line lines at-line why plain = record { at = 0; line = omega (arith, at-line); not_large = λ large. absurd cc; header = (λ is. record { front = tt; next = plain }, λ due. why) }
-
--- the first of these lines has a byte that isn't allowed
-unallowed_there : (fault : Fault) (n : ℕ) (line : List ℕ) (lines : List (List ℕ)) → fault.line ≡ n → fault.why ≡ NotYetBuilt → is_plain line ≡ false → IsReason (line ∷ lines) n fault
-unallowed_there fault n line lines at-line why plain = record { at = 0; line = omega (arith, at-line); not_large = λ large. absurd cc; header = (λ is. absurd cc, λ due. absurd (false≢true (sym plain ∙ due.next))) }
-
--- the first of these lines is skipped
-header_behind : (fault : Fault) (n : ℕ) (line : List ℕ) (lines : List (List ℕ)) → is_skipped (words_of line) ≡ true → IsReason lines (n + 1) fault → IsReason (line ∷ lines) n fault
-header_behind fault n line lines skipped h = record {
-  at = suc h.at;
-  line = omega (arith, h.line);
-  not_large = h.not_large;
-  header = (λ is. let due = h.header.0 is in record { front = (skipped, due.front); next = due.next }, λ due. h.header.1 (record { front = due.front.1; next = due.next }));
+header_tells : (d : Draft) (words : List (List ℕ)) → d.phase ≡ Start → (b : Bool) → is_header words ≡ b → Tells (cond b (Ok (record d { phase = Headed })) (Err Header)) (AreWrong d words)
+header_tells d words start true is = record {
+  told = λ why e. absurd cc;
+  refused = λ why wrong. elim wrong [
+    | inl h ↦ absurd (false≢true (sym h.1 ∙ is))
+    | inr h ↦ absurd (h.header start)
+  ];
+}
+header_tells d words start false is = record {
+  told = λ why e. inl (start, is, cc);
+  refused = λ why wrong. elim wrong [
+    | inl h ↦ ap (λ (w : ScenarioWhy). Err w) h.2
+    | inr h ↦ absurd (h.header start)
+  ];
 }
 
--- the first of these lines is the header
-header_before : (fault : Fault) (n : ℕ) (line : List ℕ) (lines : List (List ℕ)) → is_skipped (words_of line) ≡ false → IsNotYet (n + 1) fault → IsReason (line ∷ lines) n fault
-header_before fault n line lines statements h =
-    let why : fault.why ≡ NotYetBuilt = h.why in
-    record { at = suc h.at; line = omega (arith, h.line); not_large = λ large. absurd cc; header = (λ is. absurd cc, λ due. absurd (false≢true (sym statements ∙ due.front.0))) }
+later_tells : (d : Draft) (first : List ℕ) (rest : List (List ℕ)) → (d.phase ≡ Start → ⊥) → IsNamed d → Tells (after_statement d.phase d (first ∷ rest)) (AreWrong d (first ∷ rest))
+later_tells d first rest behind named =
+    let tells = statement_tells d first rest behind named.bodies named.own in
+    record {
+      told = λ why e. inr (record { header = behind; first = first; rest = rest; words_are = refl; wrong = tells.told why e });
+      refused = λ why wrong. elim wrong [
+        | inl h ↦ absurd (behind h.0)
+        | inr h ↦
+            let same_first : h.first ≡ first = cc (h.words_are) in
+            let same_rest : h.rest ≡ rest = cc (h.words_are) in
+            tells.refused why (subst (λ (r : List (List ℕ)). IsWrongBy d (kind_at d.phase first) r why) same_rest (subst (λ (f : List ℕ). IsWrongBy d (kind_at d.phase f) h.rest why) same_first h.wrong))
+      ];
+    }
 
--- the first of these lines is of allowed bytes and isn't skipped
-told_reason : (line : List ℕ) (lines : List (List ℕ)) (b : Scenario) (o : Body) (n : ℕ) (fault : Fault) → is_plain line ≡ true → is_skipped (words_of line) ≡ false
-    → goes_on (cond (is_header (words_of line)) (Ok (draft_at Headed b o)) (Err Header)) n (λ next. verdict_from next (n + 1) lines) ≡ Faults fault → IsReason (line ∷ lines) n fault
-told_reason line lines b o n fault plain statements e = go (is_header (words_of line)) e
+words_tell : (d : Draft) (words : List (List ℕ)) → is_skipped words ≡ false → IsNamed d → Tells (after_statement d.phase d words) (AreWrong d words)
+words_tell d [] kept named = absurd cc
+words_tell d (first ∷ rest) kept named = elim (started d.phase) [
+  | inl is ↦ subst (λ (p : Phase). Tells (after_statement p d (first ∷ rest)) (AreWrong d (first ∷ rest))) (sym is) (header_tells d (first ∷ rest) is (is_header (first ∷ rest)) refl)
+  | inr behind ↦ later_tells d first rest behind named
+]
+
+line_tells : (d : Draft) (text : List ℕ) → IsNamed d → Tells (after_line d text) (IsWrongLine d text)
+unfolding after_line after_words
+line_tells d text named = go (is_plain text) (is_skipped (words_of text)) refl refl
   where
-    go : (is : Bool) → goes_on (cond is (Ok (draft_at Headed b o)) (Err Header)) n (λ next. verdict_from next (n + 1) lines) ≡ Faults fault → IsReason (line ∷ lines) n fault
-    go true e = header_before fault n line lines statements (not_yet lines (draft_at Headed b o) (n + 1) fault e refl)
-    go false e = let parts = fault_parts n Header fault e in header_there fault n line lines parts.0 parts.1 plain
+    go : (plain skipped : Bool) → is_plain text ≡ plain → is_skipped (words_of text) ≡ skipped → Tells (cond plain (cond skipped (Ok d) (after_statement d.phase d (words_of text))) (Err NotAscii)) (IsWrongLine d text)
+    go false skipped is kept = record {
+      told = λ why e. inl (is, cc);
+      refused = λ why wrong. elim wrong [
+        | inl h ↦ ap (λ (w : ScenarioWhy). Err w) h.1
+        | inr h ↦ absurd (false≢true (sym is ∙ h.allowed))
+      ];
+    }
+    go true true is kept = record {
+      told = λ why e. absurd cc;
+      refused = λ why wrong. elim wrong [
+        | inl h ↦ absurd (false≢true (sym h.0 ∙ is))
+        | inr h ↦ absurd (false≢true (sym h.kept ∙ kept))
+      ];
+    }
+    go true false is kept =
+        let tells = words_tell d (words_of text) kept named in
+        record {
+          told = λ why e. inr (record { allowed = is; kept = kept; wrong = tells.told why e });
+          refused = λ why wrong. elim wrong [
+            | inl h ↦ absurd (false≢true (sym h.0 ∙ is))
+            | inr h ↦ tells.refused why h.wrong
+          ];
+        }
 
--- each fault of lines has its reason
-reason_from : (lines : List (List ℕ)) (b : Scenario) (o : Body) (n : ℕ) (fault : Fault) → verdict_from (draft_at Start b o) n lines ≡ Faults fault → IsReason lines n fault
-reason_from [] b o n fault e =
-    let parts = fault_parts n Header fault e in
-    let why : fault.why ≡ Header = parts.1 in
-    record { at = 0; line = omega (arith, parts.0); not_large = λ large. absurd cc; header = (λ is. record { front = tt; next = tt }, λ due. why) }
-reason_from (line ∷ lines) b o n fault e =
-    let d = draft_at Start b o in
-    let rest : Draft → Verdict = λ next. verdict_from next (n + 1) lines in
-    elim (cases_Bool (is_plain line)) [
-      | inr unallowed ↦ let parts = refused_is (after_line d line) NotYetBuilt n rest fault (unallowed_line d line unallowed) e in unallowed_there fault n line lines parts.0 parts.1 unallowed
-      | inl plain ↦ elim (cases_Bool (is_skipped (words_of line))) [
-        | inl skipped ↦ header_behind fault n line lines skipped (reason_from lines b o (n + 1) fault (taken_reads (after_line d line) d n rest (Faults fault) (skipped_line d line plain skipped) e))
-        | inr statements ↦ told_reason line lines b o n fault plain statements (sym (ap (λ (r : Result Draft ScenarioWhy). goes_on r n rest) (kept_line d line plain statements)) ∙ e)
-      ]
+-- ---- where reading stops
+
+-- what is wrong where the lines end
+abbrev IsWrongEnd : Phase → ScenarioWhy → Type 0
+IsWrongEnd Start why = Header ≡ why
+IsWrongEnd Headed why = MissingEnd ≡ why
+IsWrongEnd Clustered why = MissingEnd ≡ why
+IsWrongEnd InBody why = MissingEnd ≡ why
+IsWrongEnd _ why = ⊥
+
+-- a fault at this place behind a draft
+abbrev fault_at : ℕ → ScenarioWhy → Fault
+fault_at n why = record { line = n; why = why }
+
+same_faults : (n m : ℕ) (first second : ScenarioWhy) → Faults (record { line = n; why = first }) ≡ Faults (record { line = m; why = second }) → (m ≡ n) × (first ≡ second)
+same_faults n m first second e =
+    let same : ◌≡◌ {A = Fault} (record { line = n; why = first }) (record { line = m; why = second }) = cc in
+    (sym (ap (λ (x : Fault). x.line) same), ap (λ (x : Fault). x.why) same)
+
+end_told : (p : Phase) (s : Scenario) (n line : ℕ) (why : ScenarioWhy) → at_end p s n ≡ Faults (fault_at line why) → (line ≡ n) × IsWrongEnd p why
+end_told Start s n line why e = same_faults n line Header why e
+end_told Headed s n line why e = same_faults n line MissingEnd why e
+end_told Clustered s n line why e = same_faults n line MissingEnd why e
+end_told Timed s n line why e = absurd cc
+end_told Limited s n line why e = absurd cc
+end_told InBody s n line why e = same_faults n line MissingEnd why e
+end_told InInits s n line why e = absurd cc
+
+end_refused : (p : Phase) (s : Scenario) (n : ℕ) (why : ScenarioWhy) → IsWrongEnd p why → at_end p s n ≡ Faults (fault_at n why)
+end_refused Start s n why is = ap (λ (w : ScenarioWhy). Faults (fault_at n w)) is
+end_refused Headed s n why is = ap (λ (w : ScenarioWhy). Faults (fault_at n w)) is
+end_refused Clustered s n why is = ap (λ (w : ScenarioWhy). Faults (fault_at n w)) is
+end_refused InBody s n why is = ap (λ (w : ScenarioWhy). Faults (fault_at n w)) is
+end_refused Timed s n why is = absurd is
+end_refused _ s n why is = absurd is
+
+-- reading ends behind this line, or the line that follows is wrong
+abbrev Ends : List (List ℕ) → ℕ → Draft → ScenarioWhy → Type 0
+Ends lines front to why = ((front ≡ length lines) × IsWrongEnd to.phase why) ⊎ ((text : List ℕ) × (slice_get lines front ≡ Some text) × IsWrongLine to text why)
+
+-- Reading from the draft stops behind so many of the lines, for this reason.
+record Stops (d : Draft) (lines : List (List ℕ)) (n line : ℕ) (why : ScenarioWhy) : Type 0 where
+  front : ℕ
+  number : line ≡ n + front
+  to : Draft
+  named : IsNamed to
+  lead : Lead d (take front lines) to
+  is : Ends lines front to why
+
+goes_told : (r : Result Draft ScenarioWhy) (n line : ℕ) (rest : Draft → Verdict) (why : ScenarioWhy) → goes_on r n rest ≡ Faults (fault_at line why)
+    → ((next : Draft) × (r ≡ Ok next) × (rest next ≡ Faults (fault_at line why))) ⊎ ((r ≡ Err why) × (line ≡ n))
+goes_told (Ok next) n line rest why e = inl (next, refl, e)
+goes_told (Err is) n line rest why e = let same = same_faults n line is why e in inr (ap (λ (w : ScenarioWhy). Err w) same.1, same.0)
+
+-- behind one line more
+one_more : (line : List ℕ) (lines : List (List ℕ)) (front : ℕ) (to : Draft) (why : ScenarioWhy) → Ends lines front to why → Ends (line ∷ lines) (suc front) to why
+one_more line lines front to why is = elim is [
+  | inl h ↦ inl (ap suc h.0, h.1)
+  | inr h ↦ inr h
+]
+
+one_less : (line : List ℕ) (lines : List (List ℕ)) (front : ℕ) (to : Draft) (why : ScenarioWhy) → Ends (line ∷ lines) (suc front) to why → Ends lines front to why
+one_less line lines front to why is = elim is [
+  | inl h ↦ let more : suc front ≡ suc (length lines) = h.0 in inl (omega (arith, more), h.1)
+  | inr h ↦ inr h
+]
+
+stops_told : (lines : List (List ℕ)) (d : Draft) (n line : ℕ) (why : ScenarioWhy) → IsNamed d → verdict_from d n lines ≡ Faults (fault_at line why) → Stops d lines n line why
+stops_told [] d n line why named e =
+    let end = end_told d.phase d.scenario n line why e in
+    record { front = 0; number = omega (arith, end.0); to = d; named = named; lead = refl; is = inl (refl, end.1) }
+stops_told (text ∷ lines) d n line why named e = elim (goes_told (after_line d text) n line (λ next. verdict_from next (n + 1) lines) why e) [
+  | inl t ↦
+      let rest = stops_told lines t.0 (n + 1) line why (line_named d text t.0 t.1 named) t.2 in
+      record { front = suc rest.front; number = omega (arith, rest.number); to = rest.to; named = rest.named; lead = (t.0, t.1, rest.lead); is = one_more text lines rest.front rest.to why rest.is }
+  | inr t ↦ record { front = 0; number = omega (arith, t.1); to = d; named = named; lead = refl; is = inr (text, refl, (line_tells d text named).told why t.0) }
+]
+
+-- reading stops at the end, or at the first of these lines
+here_refused : (lines : List (List ℕ)) (d : Draft) (n : ℕ) (why : ScenarioWhy) → IsNamed d → Ends lines 0 d why → verdict_from d n lines ≡ Faults (fault_at n why)
+here_refused [] d n why named is = elim is [
+  | inl h ↦ end_refused d.phase d.scenario n why h.1
+  | inr h ↦ absurd cc
+]
+here_refused (text ∷ lines) d n why named is = elim is [
+  | inl h ↦ let none : 0 ≡ suc (length lines) = h.0 in absurd (omega (arith, none))
+  | inr h ↦
+      let same : h.0 ≡ text = cc (h.1) in
+      let refused = (line_tells d text named).refused why (subst (λ (t : List ℕ). IsWrongLine d t why) same h.2) in
+      ap (λ (r : Result Draft ScenarioWhy). goes_on r n (λ next. verdict_from next (n + 1) lines)) refused
+]
+
+stops_refused : (lines : List (List ℕ)) (d to : Draft) (n front : ℕ) (why : ScenarioWhy) → IsNamed d → Lead d (take front lines) to → Ends lines front to why → verdict_from d n lines ≡ Faults (fault_at (n + front) why)
+stops_refused lines d to n zero why named lead is =
+    let here = here_refused lines d n why named (subst (λ (x : Draft). Ends lines 0 x why) (sym lead) is) in
+    let at : n ≡ n + 0 = omega arith in
+    here ∙ ap (λ (k : ℕ). Faults (fault_at k why)) at
+stops_refused [] d to n (suc front) why named lead is = elim is [
+  | inl h ↦ let none : suc front ≡ 0 = h.0 in absurd (omega (arith, none))
+  | inr h ↦ absurd cc
+]
+stops_refused (text ∷ lines) d to n (suc front) why named lead is =
+    let rest = stops_refused lines lead.0 to (n + 1) front why (line_named d text lead.0 lead.1 named) lead.2 (one_less text lines front to why is) in
+    let at : (n + 1) + front ≡ n + suc front = omega arith in
+    ap (λ (r : Result Draft ScenarioWhy). goes_on r n (λ next. verdict_from next (n + 1) lines)) lead.1 ∙ rest ∙ ap (λ (k : ℕ). Faults (fault_at k why)) at
+
+-- ---- what reasons say
+
+-- what each reason says of a text and a line
+abbrev Said : ScenarioWhy → List ℕ → ℕ → Type 0
+Said Header bytes line = HeaderIsMissing bytes line
+Said Word bytes line = WordIsWrong bytes line
+Said Number bytes line = NumberIsMissing bytes line
+Said Range bytes line = NumberIsOutOfRange bytes line
+Said UnknownName bytes line = NameIsUnknown bytes line
+Said Repeated bytes line = NameIsRepeated bytes line
+Said TooMany bytes line = LineIsOneTooMany bytes line
+Said MissingEnd bytes line = EndIsMissing bytes line
+Said NotAscii bytes line = ByteIsUnallowed bytes line
+Said TooLarge bytes line = TextIsTooLarge bytes line
+
+-- no word is wrong for any of these reasons
+apart : (d : Draft) (slots : List Slot) (words : List (List ℕ)) (why : ScenarioWhy) → ((slot : Slot) (word : List ℕ) → IsUnfit d slot word why → ⊥) → FirstUnfitIs d slots words why → ⊥
+apart d [] words why none unfit = unfit
+apart d (slot ∷ slots) [] why none unfit = unfit
+apart d (slot ∷ slots) (word ∷ words) why none unfit = elim unfit [
+  | inl h ↦ none slot word h
+  | inr h ↦ apart d slots words why none h.1
+]
+
+unfit_said : (why : ScenarioWhy) (bytes : List ℕ) (line : ℕ) (d : Draft) (kind : LineKind) (words : List (List ℕ)) → IsOfKind bytes line d kind words → length words ≡ length (slots_of kind) → FirstUnfitIs d (slots_of kind) words why → Said why bytes line
+unfit_said Word bytes line d kind words of count unfit = inr (inr (record { draft = d; kind = kind; words = words; of_kind = of; count = count; unfit = unfit }))
+unfit_said Number bytes line d kind words of count unfit = record { draft = d; kind = kind; words = words; of_kind = of; count = count; unfit = unfit }
+unfit_said Range bytes line d kind words of count unfit = record { draft = d; kind = kind; words = words; of_kind = of; count = count; unfit = unfit }
+unfit_said UnknownName bytes line d kind words of count unfit = record { draft = d; kind = kind; words = words; of_kind = of; count = count; unfit = unfit }
+unfit_said Repeated bytes line d kind words of count unfit = record { draft = d; kind = kind; words = words; of_kind = of; count = count; unfit = unfit }
+unfit_said Header bytes line d kind words of count unfit = absurd (apart d (slots_of kind) words Header (λ slot word h. h) unfit)
+unfit_said TooMany bytes line d kind words of count unfit = absurd (apart d (slots_of kind) words TooMany (λ slot word h. h) unfit)
+unfit_said MissingEnd bytes line d kind words of count unfit = absurd (apart d (slots_of kind) words MissingEnd (λ slot word h. h) unfit)
+unfit_said NotAscii bytes line d kind words of count unfit = absurd (apart d (slots_of kind) words NotAscii (λ slot word h. h) unfit)
+unfit_said TooLarge bytes line d kind words of count unfit = absurd (apart d (slots_of kind) words TooLarge (λ slot word h. h) unfit)
+
+kind_said : (why : ScenarioWhy) (bytes : List ℕ) (line : ℕ) (d : Draft) (kind : LineKind) (words : List (List ℕ)) → IsOfKind bytes line d kind words → IsWrong d kind words why → Said why bytes line
+kind_said why bytes line d kind words of wrong = elim wrong [
+  | inl h ↦ subst (λ (w : ScenarioWhy). Said w bytes line) h.1 (inr (inl (record { draft = d; kind = kind; words = words; of_kind = of; count = h.0 })))
+  | inr h ↦ elim h.1 [
+    | inl unfit ↦ unfit_said why bytes line d kind words of h.0 unfit
+    | inr both ↦ subst (λ (w : ScenarioWhy). Said w bytes line) both.1.1 (record { draft = d; kind = kind; words = words; of_kind = of; fit = both.0; no_room = both.1.0 })
+  ]
+]
+
+by_kind_said : (why : ScenarioWhy) (bytes : List ℕ) (line : ℕ) (d : Draft) (first : List ℕ) (words : List (List ℕ)) → IsStatement bytes line d first words → IsWrongBy d (kind_at d.phase first) words why → Said why bytes line
+by_kind_said why bytes line d first words statement wrong = elim wrong [
+  | inl h ↦ subst (λ (w : ScenarioWhy). Said w bytes line) h.1 (inl (record { draft = d; first = first; words = words; statement = statement; strange = h.0 }))
+  | inr h ↦ kind_said why bytes line d h.0 words (record { first = first; statement = statement; kind_is = h.1 }) h.2
+]
+
+-- the header isn't these words
+unheaded : (words : List (List ℕ)) → is_header words ≡ false → words ≡ codes "rtems" ∷ codes "1" ∷ [] → ⊥
+unfolding is_header
+unheaded words wrong is = false≢true (sym wrong ∙ ap is_header is)
+
+line_said : (why : ScenarioWhy) (bytes : List ℕ) (line : ℕ) (d : Draft) (text : List ℕ) → IsReached bytes line d text → IsNamed start → IsWrongLine d text why → Said why bytes line
+line_said why bytes line d text reached named wrong = elim wrong [
+  | inl h ↦ subst (λ (w : ScenarioWhy). Said w bytes line) h.1 (record { draft = d; text = text; reached = reached; unallowed = h.0 })
+  | inr plain ↦ elim plain.wrong [
+    | inl h ↦ subst (λ (w : ScenarioWhy). Said w bytes line) h.2 (record {
+      size = reached.size;
+      front = reached.front;
+      number = reached.number;
+      passed = lead_passed (take reached.front (lines_of bytes)) start d reached.lead named h.0;
+      missing = inr (text, reached.there, record { allowed = plain.allowed; kept = plain.kept; other = unheaded (words_of text) h.1 });
+    })
+    | inr h ↦ by_kind_said why bytes line d h.first h.rest (record {
+      text = text;
+      reached = reached;
+      header = h.header;
+      allowed = plain.allowed;
+      words_are = h.words_are;
+      kept = subst (λ (words : List (List ℕ)). is_skipped words ≡ false) h.words_are plain.kept;
+    }) h.wrong
+  ]
+]
+
+-- the end of a text that leads to a draft with lines to follow
+record IsCut (bytes : List ℕ) (line : ℕ) (d : Draft) : Type 0 where
+  size : length bytes ≤ 1048576
+  number : line ≡ length (lines_of bytes) + 1
+  lead : Lead start (lines_of bytes) d
+
+open_said : (why : ScenarioWhy) (bytes : List ℕ) (line : ℕ) (d : Draft) → IsCut bytes line d → IsOpen d.phase → MissingEnd ≡ why → Said why bytes line
+open_said why bytes line d cut unfinished is = subst (λ (w : ScenarioWhy). Said w bytes line) is (record { size = cut.size; number = cut.number; draft = d; lead = cut.lead; unfinished = unfinished })
+
+end_said : (p : Phase) (why : ScenarioWhy) (bytes : List ℕ) (line : ℕ) (d : Draft) → d.phase ≡ p → IsNamed start → IsCut bytes line d → IsWrongEnd p why → Said why bytes line
+end_said Start why bytes line d at named cut wrong = subst (λ (w : ScenarioWhy). Said w bytes line) wrong (record {
+  size = cut.size;
+  front = length (lines_of bytes);
+  number = cut.number;
+  passed = rw (take-length (lines_of bytes)) (lead_passed (lines_of bytes) start d cut.lead named at);
+  missing = inl refl;
+})
+end_said Headed why bytes line d at named cut wrong = open_said why bytes line d cut (subst IsOpen (sym at) tt) wrong
+end_said Clustered why bytes line d at named cut wrong = open_said why bytes line d cut (subst IsOpen (sym at) tt) wrong
+end_said InBody why bytes line d at named cut wrong = open_said why bytes line d cut (subst IsOpen (sym at) tt) wrong
+end_said Timed why bytes line d at named cut wrong = absurd wrong
+end_said _ why bytes line d at named cut wrong = absurd wrong
+
+named_start : IsNamed start
+named_start = record { bodies = tt; own = tt }
+
+-- where reading stops the reason says so
+stop_said : (why : ScenarioWhy) (bytes : List ℕ) (line : ℕ) → length bytes ≤ 1048576 → Stops start (lines_of bytes) 1 line why → Said why bytes line
+stop_said why bytes line size stop =
+    let number : line ≡ stop.front + 1 = omega (arith, stop.number) in
+    elim stop.is [
+      | inl h ↦
+          let last : line ≡ length (lines_of bytes) + 1 = omega (arith, number, h.0) in
+          let whole : take stop.front (lines_of bytes) ≡ lines_of bytes = ap (λ (k : ℕ). take k (lines_of bytes)) h.0 ∙ take-length (lines_of bytes) in
+          end_said stop.to.phase why bytes line stop.to refl named_start (record { size = size; number = last; lead = subst (λ (lines : List (List ℕ)). Lead start lines stop.to) whole stop.lead }) h.1
+      | inr h ↦ line_said why bytes line stop.to h.0 (record { size = size; front = stop.front; number = number; lead = stop.lead; there = h.1 }) named_start h.2
     ]
 
--- ---- the law
+-- ---- what is said is the fault
 
-pub faults_have_their_reasons : FaultsHaveTheirReasons
-faults_have_their_reasons bytes fault e =
-    elim (size_faults (nat_lt 1048576 (length bytes)) (record { line = 0; why = TooLarge }) fault (verdict_from start 1 (lines_of bytes)) e) [
+small_fault : (bytes : List ℕ) (fault : Fault) → length bytes ≤ 1048576 → verdict_from start 1 (lines_of bytes) ≡ Faults fault → scenario_fault bytes ≡ Some fault
+small_fault bytes fault size e =
+    let small : nat_lt 1048576 (length bytes) ≡ false = le-ltb 1048576 (length bytes) size in
+    rw (small, e) refl
+
+stop_fault : (bytes : List ℕ) (line front : ℕ) (to : Draft) (why : ScenarioWhy) → length bytes ≤ 1048576 → line ≡ front + 1 → Lead start (take front (lines_of bytes)) to → Ends (lines_of bytes) front to why
+    → scenario_fault bytes ≡ Some (fault_at line why)
+stop_fault bytes line front to why size number lead is =
+    let at : 1 + front ≡ line = omega (arith, number) in
+    small_fault bytes (fault_at line why) size (stops_refused (lines_of bytes) start to 1 front why named_start lead is ∙ ap (λ (k : ℕ). Faults (fault_at k why)) at)
+
+line_fault : (bytes : List ℕ) (line : ℕ) (d : Draft) (text : List ℕ) (why : ScenarioWhy) → IsReached bytes line d text → IsWrongLine d text why → scenario_fault bytes ≡ Some (fault_at line why)
+line_fault bytes line d text why reached wrong = stop_fault bytes line reached.front d why reached.size reached.number reached.lead (inr (text, reached.there, wrong))
+
+statement_fault : (bytes : List ℕ) (line : ℕ) (d : Draft) (first : List ℕ) (words : List (List ℕ)) (why : ScenarioWhy) → IsStatement bytes line d first words → IsWrongBy d (kind_at d.phase first) words why
+    → scenario_fault bytes ≡ Some (fault_at line why)
+statement_fault bytes line d first words why h wrong =
+    line_fault bytes line d h.text why h.reached (inr (record {
+      allowed = h.allowed;
+      kept = subst (λ (w : List (List ℕ)). is_skipped w ≡ false) (sym h.words_are) h.kept;
+      wrong = inr (record { header = h.header; first = first; rest = words; words_are = h.words_are; wrong = wrong });
+    }))
+
+kind_fault : (bytes : List ℕ) (line : ℕ) (d : Draft) (kind : LineKind) (words : List (List ℕ)) (why : ScenarioWhy) → IsOfKind bytes line d kind words → IsWrong d kind words why → scenario_fault bytes ≡ Some (fault_at line why)
+kind_fault bytes line d kind words why h wrong = statement_fault bytes line d h.first words why h.statement (inr (kind, h.kind_is, wrong))
+
+unfit_fault : (bytes : List ℕ) (line : ℕ) (why : ScenarioWhy) → HasUnfitWord bytes line why → scenario_fault bytes ≡ Some (fault_at line why)
+unfit_fault bytes line why h = kind_fault bytes line h.draft h.kind h.words why h.of_kind (inr (h.count, inl h.unfit))
+
+word_fault : (bytes : List ℕ) (line : ℕ) → WordIsWrong bytes line → scenario_fault bytes ≡ Some (fault_at line Word)
+word_fault bytes line said = elim said [
+  | inl h ↦ statement_fault bytes line h.draft h.first h.words Word h.statement (inl (h.strange, refl))
+  | inr more ↦ elim more [
+    | inl h ↦ kind_fault bytes line h.draft h.kind h.words Word h.of_kind (inl (h.count, refl))
+    | inr h ↦ unfit_fault bytes line Word h
+  ]
+]
+
+-- there is a word for each slot where each is right
+fit_count : (d : Draft) (slots : List Slot) (words : List (List ℕ)) → AreFit d slots words → length words ≡ length slots
+fit_count d [] [] fit = refl
+fit_count d [] (word ∷ words) fit = absurd fit
+fit_count d (slot ∷ slots) [] fit = absurd fit
+fit_count d (slot ∷ slots) (word ∷ words) fit = ap suc (fit_count d slots words fit.1)
+
+many_fault : (bytes : List ℕ) (line : ℕ) → LineIsOneTooMany bytes line → scenario_fault bytes ≡ Some (fault_at line TooMany)
+many_fault bytes line h = kind_fault bytes line h.draft h.kind h.words TooMany h.of_kind (inr (fit_count h.draft (slots_of h.kind) h.words h.fit, inr (h.fit, (h.no_room, refl))))
+
+no_header : (text : List ℕ) → IsNoHeader text → is_header (words_of text) ≡ false
+no_header text h = false_from_ne_true (is_header (words_of text)) (λ same. h.other (header_is (words_of text) same))
+
+header_fault : (bytes : List ℕ) (line : ℕ) → HeaderIsMissing bytes line → scenario_fault bytes ≡ Some (fault_at line Header)
+header_fault bytes line h =
+    let lead = passed_lead (take h.front (lines_of bytes)) start h.passed in
+    stop_fault bytes line h.front start Header h.size h.number lead (elim h.missing [
+      | inl last ↦ inl (last, refl)
+      | inr there ↦ inr (there.0, there.1, inr (record { allowed = there.2.allowed; kept = there.2.kept; wrong = inl (refl, no_header there.0 there.2, refl) }))
+    ])
+
+open_end : (p : Phase) → IsOpen p → IsWrongEnd p MissingEnd
+open_end Headed unfinished = refl
+open_end Clustered unfinished = refl
+open_end InBody unfinished = refl
+open_end Start unfinished = absurd unfinished
+open_end _ unfinished = absurd unfinished
+
+end_fault : (bytes : List ℕ) (line : ℕ) → EndIsMissing bytes line → scenario_fault bytes ≡ Some (fault_at line MissingEnd)
+end_fault bytes line h =
+    stop_fault bytes line (length (lines_of bytes)) h.draft MissingEnd h.size h.number (rw (take-length (lines_of bytes)) h.lead) (inl (refl, open_end h.draft.phase h.unfinished))
+
+large_fault : (bytes : List ℕ) (line : ℕ) → TextIsTooLarge bytes line → scenario_fault bytes ≡ Some (fault_at line TooLarge)
+large_fault bytes line h =
+    let large : nat_lt 1048576 (length bytes) ≡ true = lt-ltb 1048576 (length bytes) h.size in
+    rw (large, h.whole) refl
+
+said_fault : (why : ScenarioWhy) (bytes : List ℕ) (line : ℕ) → Said why bytes line → scenario_fault bytes ≡ Some (fault_at line why)
+said_fault Header bytes line said = header_fault bytes line said
+said_fault Word bytes line said = word_fault bytes line said
+said_fault Number bytes line said = unfit_fault bytes line Number said
+said_fault Range bytes line said = unfit_fault bytes line Range said
+said_fault UnknownName bytes line said = unfit_fault bytes line UnknownName said
+said_fault Repeated bytes line said = unfit_fault bytes line Repeated said
+said_fault TooMany bytes line said = many_fault bytes line said
+said_fault MissingEnd bytes line said = end_fault bytes line said
+said_fault NotAscii bytes line said = line_fault bytes line said.draft said.text NotAscii said.reached (inl (said.unallowed, refl))
+said_fault TooLarge bytes line said = large_fault bytes line said
+
+-- ---- the laws
+
+fault_said : (why : ScenarioWhy) (bytes : List ℕ) (line : ℕ) → scenario_fault bytes ≡ Some (fault_at line why) → Said why bytes line
+fault_said why bytes line e =
+    elim (size_faults (nat_lt 1048576 (length bytes)) (record { line = 0; why = TooLarge }) (fault_at line why) (verdict_from start 1 (lines_of bytes)) e) [
       | inl t ↦
-          let large : 1048576 < length bytes = ltb-true 1048576 (length bytes) t.0 in
-          record { large = (λ is. large, λ is. ap (λ (x : Fault). x.why) t.1); header = λ few. absurd (omega (arith, large, few)) }
-      | inr t ↦
-          let small : length bytes ≤ 1048576 = ltb-false 1048576 (length bytes) t.0 in
-          let r = reason_from (lines_of bytes) start.scenario start.body 1 fault t.1 in
-          let before : r.at ≡ fault.line - 1 = omega (arith, r.line) in
-          record {
-            large = (λ is. absurd (r.not_large is), λ large. absurd (omega (arith, large, small)));
-            header = λ few. subst (λ (count : ℕ). (fault.why ≡ Header) ↔ IsHeaderDue (lines_of bytes) count) before r.header;
-          }
+          let whole : line ≡ 0 = ap (λ (x : Fault). x.line) t.1 in
+          let large : TooLarge ≡ why = sym (ap (λ (x : Fault). x.why) t.1) in
+          subst (λ (w : ScenarioWhy). Said w bytes line) large (record { size = ltb-true 1048576 (length bytes) t.0; whole = whole })
+      | inr t ↦ stop_said why bytes line (ltb-false 1048576 (length bytes) t.0) (stops_told (lines_of bytes) start 1 line why named_start t.1)
     ]
+
+-- each reason comes where it is said to come
+pub comes_where : (why : ScenarioWhy) → ComesExactlyWhere why (Said why)
+comes_where why bytes line = (fault_said why bytes line, said_fault why bytes line)

@@ -14,10 +14,10 @@ use Rattle.rk_model.specs.declared.scenario.Body.{Body}
 use Rattle.rk_model.specs.declared.scenario.Init.{Init}
 use Rattle.rk_model.specs.declared.scenario.Scenario.{Scenario}
 use Rattle.rk_model.specs.declared.scenario.ScenarioWhy.{ScenarioWhy}
-use Rattle.rk_model.specs.declared.scenario.ScenarioWhy.TheVariants.{NotYetBuilt}
-use Rattle.rk_model.specs.Text.Words.{number_of, decimal_of, name_of, name0_of, var_of}
+use Rattle.rk_model.specs.declared.scenario.ScenarioWhy.TheVariants.{Word, Range, UnknownName}
+use Rattle.rk_model.specs.Text.Words.{number_of, decimal_of, name_of, name0_of, var_of, is_body_name}
 use Rattle.rk_model.specs.Text.Scenarios.{IsNumber, IsId, IsAddress, IsEither, IsWish, IsInit, IsEarlier, body_of, is_target}
-use Rattle.rk_model.specs.Text.Reading.{◌>>=◌, within, below, given_value, named, led, id_by, number_operand, cluster_operand, given_operand, fixed_operand, id_operand, address_operand, goto_operand, name_operand, name0_operand, body_operand, either_operand, wish_operand, init_operands}
+use Rattle.rk_model.specs.Text.Reading.{◌>>=◌, within, below, given_value, body_told, named, led, id_by, number_operand, cluster_operand, given_operand, fixed_operand, id_operand, address_operand, goto_operand, name_operand, name0_operand, body_operand, either_operand, wish_operand, init_operands}
 
 -- ---- steps that are taken
 
@@ -54,7 +54,7 @@ text_same a = (bytes_eq-Decides a a).1 refl
 within_ok : (least most : ℕ) (o : Option ℕ) (n : ℕ) → within least most o ≡ Ok n → (o ≡ Some n) × (least ≤ n) × (n ≤ most)
 within_ok least most None n e = absurd cc
 within_ok least most (Some m) n e =
-    let t = then_ok (nat_le least m && nat_le m most) (done m) NotYetBuilt n e in
+    let t = then_ok (nat_le least m && nat_le m most) (done m) Range n e in
     let both = and_parts (nat_le least m) (nat_le m most) t.0 in
     let same : m ≡ n = ok_is m n t.1 in
     let low : least ≤ m = leb-true least m both.0 in
@@ -75,27 +75,27 @@ number_is least most word n h =
 below_ok : (count : ℕ) (o : Option ℕ) (n : ℕ) → below count o ≡ Ok n → (o ≡ Some n) × (n < count)
 below_ok count None n e = absurd cc
 below_ok count (Some m) n e =
-    let t = then_ok (nat_lt m count) (done m) NotYetBuilt n e in
+    let t = then_ok (nat_lt m count) (done m) Range n e in
     let same : m ≡ n = ok_is m n t.1 in
     let lt : m < count = ltb-true m count t.0 in
     (ap (λ (k : ℕ). Some k) same, omega arith)
 
-cluster_ok : (count : ℕ) (word : List ℕ) (n : ℕ) → cluster_operand count word ≡ Ok n → (number_of word ≡ Some n) × (n < count)
+pub cluster_ok : (count : ℕ) (word : List ℕ) (n : ℕ) → cluster_operand count word ≡ Ok n → (number_of word ≡ Some n) × (n < count)
 unfolding cluster_operand
 cluster_ok count word n e = below_ok count (number_of word) n e
 
-cluster_is : (count : ℕ) (word : List ℕ) (n : ℕ) → number_of word ≡ Some n → n < count → cluster_operand count word ≡ Ok n
+pub cluster_is : (count : ℕ) (word : List ℕ) (n : ℕ) → number_of word ≡ Some n → n < count → cluster_operand count word ≡ Ok n
 unfolding cluster_operand
 cluster_is count word n e lt = let test = lt-ltb n count lt in rw (e, test) refl
 
 -- a word that spells a number isn't one that spells none
-number_differs : (other word : List ℕ) (bits : ℕ) → number_of other ≡ None → number_of word ≡ Some bits → bytes_eq word other ≡ false
+pub number_differs : (other word : List ℕ) (bits : ℕ) → number_of other ≡ None → number_of word ≡ Some bits → bytes_eq word other ≡ false
 number_differs other word bits none e = false_from_ne_true (bytes_eq word other) (λ same. some_not_none bits (sym (subst (λ (w : List ℕ). number_of w ≡ Some bits) (text_is word other same) e) ∙ none))
   where
     some_not_none : (n : ℕ) → ◌≡◌ {A = Option ℕ} (Some n) None → ⊥
     some_not_none n e = cc
 
-self_no_number : number_of (codes "self") ≡ None
+pub self_no_number : number_of (codes "self") ≡ None
 unfolding number_of decimal_of
 self_no_number = refl
 
@@ -122,7 +122,7 @@ number_no_v : (a b bits : ℕ) → number_of (a ∷ b ∷ []) ≡ Some bits → 
 number_no_v a b bits e = false_from_ne_true (eqb a 118) (λ same. v_no_number b bits (subst (λ (x : ℕ). number_of (x ∷ b ∷ []) ≡ Some bits) (eqb-true a 118 same) e))
 
 -- a word that spells a number spells no variable
-number_no_var : (word : List ℕ) (bits : ℕ) → number_of word ≡ Some bits → var_of word ≡ None
+pub number_no_var : (word : List ℕ) (bits : ℕ) → number_of word ≡ Some bits → var_of word ≡ None
 unfolding number_of decimal_of var_of
 number_no_var [] bits e = refl
 number_no_var (a ∷ []) bits e = refl
@@ -164,7 +164,7 @@ address_is word (Given bits) h = rw (number_no_var word bits h.value, number_is 
 led_ok : (earlier : List Op) (o : Option ℕ) (n : ℕ) → led earlier o ≡ Ok n → (o ≡ Some n) × (is_target earlier n ≡ true)
 led_ok earlier None n e = absurd cc
 led_ok earlier (Some m) n e =
-    let t = then_ok (is_target earlier m) (done m) NotYetBuilt n e in
+    let t = then_ok (is_target earlier m) (done m) Range n e in
     let same : m ≡ n = ok_is m n t.1 in
     (ap (λ (k : ℕ). Some k) same, subst (λ (k : ℕ). is_target earlier k ≡ true) same t.0)
 
@@ -177,6 +177,17 @@ unfolding goto_operand
 goto_is earlier word n h = rw (h.value, h.target) refl
 
 -- a value that a word may spell is taken where the word spells one, and only there
+pub body_told_ok : (word : List ℕ) (o : Option ℕ) (n : ℕ) → body_told word o ≡ Ok n → o ≡ Some n
+body_told_ok word None n e = go (is_body_name word) e
+  where
+    go : (b : Bool) → cond {A = Result ℕ ScenarioWhy} b (Err UnknownName) (Err Word) ≡ Ok n → None ≡ Some n
+    go true e = absurd cc
+    go false e = absurd cc
+body_told_ok word (Some m) n e = ap (λ (k : ℕ). Some k) (ok_is m n e)
+
+pub body_told_is : (word : List ℕ) (o : Option ℕ) (n : ℕ) → o ≡ Some n → body_told word o ≡ Ok n
+body_told_is word o n e = ap (body_told word) e
+
 pub known_ok : {X : Type 0} (o : Option X) (x : X) → given_value o ≡ Ok x → o ≡ Some x
 known_ok None x e = absurd cc
 known_ok {X} (Some y) x e = ap (λ (z : X). Some z) (ok_is y x e)
@@ -208,10 +219,10 @@ name0_is word name e = rw e refl
 pub either_ok : (first second word : List ℕ) (b : Bool) → either_operand first second word ≡ Ok b → IsEither word first second b
 unfolding either_operand
 either_ok first second word b e =
-    elim (branch_ok (bytes_eq word second) (done true) (cond (bytes_eq word first) (done false) (Err NotYetBuilt)) b e) [
+    elim (branch_ok (bytes_eq word second) (done true) (cond (bytes_eq word first) (done false) (Err Word)) b e) [
       | inl h ↦ subst (λ (x : Bool). IsEither word first second x) (ok_is true b h.1) (text_is word second h.0)
       | inr h ↦
-          let t = then_ok (bytes_eq word first) (done false) NotYetBuilt b h.1 in
+          let t = then_ok (bytes_eq word first) (done false) Word b h.1 in
           subst (λ (x : Bool). IsEither word first second x) (ok_is false b t.1) (text_is word first t.0)
     ]
 
@@ -221,7 +232,7 @@ unfolding either_operand
 either_is first second word true differ h = rw (h, text_same second) refl
 either_is first second word false differ h = rw (h, differ, text_same first) refl
 
-nowait_no_number : number_of (codes "nowait") ≡ None
+pub nowait_no_number : number_of (codes "nowait") ≡ None
 unfolding number_of decimal_of
 nowait_no_number = refl
 
@@ -240,13 +251,13 @@ unfolding wish_operand
 wish_is word NoWait h = rw h refl
 wish_is word (Limit ticks) h = rw (number_differs (codes "nowait") word ticks nowait_no_number h.value, number_is 0 4294967295 word ticks h) refl
 
-body_ok : (bodies : List Body) (word : List ℕ) (n : ℕ) → body_operand bodies word ≡ Ok n → body_of bodies word ≡ Some n
+pub body_ok : (bodies : List Body) (word : List ℕ) (n : ℕ) → body_operand bodies word ≡ Ok n → body_of bodies word ≡ Some n
 unfolding body_operand
-body_ok bodies word n e = known_ok (body_of bodies word) n e
+body_ok bodies word n e = body_told_ok word (body_of bodies word) n e
 
-body_is : (bodies : List Body) (word : List ℕ) (n : ℕ) → body_of bodies word ≡ Some n → body_operand bodies word ≡ Ok n
+pub body_is : (bodies : List Body) (word : List ℕ) (n : ℕ) → body_of bodies word ≡ Some n → body_operand bodies word ≡ Ok n
 unfolding body_operand
-body_is bodies word n e = known_is (body_of bodies word) n e
+body_is bodies word n e = body_told_is word (body_of bodies word) n e
 
 -- ---- init lines
 

@@ -7,7 +7,7 @@ use Rattle.rk_model.specs.declared.scenario.Body.{Body}
 use Rattle.rk_model.specs.declared.scenario.Init.{Init}
 use Rattle.rk_model.specs.declared.scenario.Scenario.{Scenario}
 use Rattle.rk_model.specs.declared.scenario.ScenarioWhy.{ScenarioWhy}
-use Rattle.rk_model.specs.declared.scenario.ScenarioWhy.TheVariants.{TooLarge, NotYetBuilt}
+use Rattle.rk_model.specs.declared.scenario.ScenarioWhy.TheVariants.{TooLarge, NotAscii}
 use Rattle.rk_model.specs.Text.Words.{lines_of, words_of, is_plain, is_skipped}
 use Rattle.rk_model.specs.Text.Scenarios.{AreClusters, AreBodies, AreInits, IsCluster, cpus_in, IsTicks, IsLimit, Describes, ScenarioText, IsScenario}
 use Rattle.rk_model.specs.Text.Reading.{Phase, Start, Headed, Clustered, Timed, Limited, InBody, InInits, Draft, start, after_statement, after_words, after_line, Fault, Verdict, Reads, Faults, at_end, goes_on, verdict_from, verdict, fault_in}
@@ -87,7 +87,7 @@ words_step : (skipped : Bool) (d next : Draft) (next_step : Result Draft Scenari
 words_step true d next next_step e = inl (refl, cc)
 words_step false d next next_step e = inr (refl, e)
 
-line_step : (plain : Bool) (words : Result Draft ScenarioWhy) (next : Draft) → cond plain words (Err NotYetBuilt) ≡ Ok next → (plain ≡ true) × (words ≡ Ok next)
+line_step : (plain : Bool) (words : Result Draft ScenarioWhy) (next : Draft) → cond plain words (Err NotAscii) ≡ Ok next → (plain ≡ true) × (words ≡ Ok next)
 line_step true words next e = (refl, e)
 line_step false words next e = absurd cc
 

@@ -1,3 +1,4 @@
 pub mod TextLaws
 pub mod Drafts
 pub mod ReadingAnswers
+pub mod Reasons

@@ -1,9 +1,8 @@
 -- What holds of texts and their scenarios.
-use Rattle.std.specs.Prelude.{ℕ, ◌+◌, ◌-◌, ◌<◌, ◌≤◌, ◌≡◌, ◌↔◌, ◌⊎◌, true, not, List, ◌++◌, length, map, filter, take, Some, None, IfSome, slice_get}
+use Rattle.std.specs.Prelude.{ℕ, ◌+◌, ◌-◌, ◌<◌, ◌≤◌, ◌≡◌, ◌↔◌, ◌⊎◌, true, not, List, ◌++◌, length, map, filter, take, Some, None}
 use Rattle.std.specs.List.{AllByRecursion}
 use Rattle.rk_model.specs.declared.limits.TheConstants.{MOST_BYTES}
 use Rattle.rk_model.specs.declared.scenario.Scenario.{Scenario}
-use Rattle.rk_model.specs.declared.scenario.ScenarioWhy.TheVariants.{Header, TooLarge}
 use Rattle.rk_model.specs.Text.Words.{lines_of, words_of, is_plain, is_skipped}
 use Rattle.rk_model.specs.Text.Scenarios.{Describes, ScenarioText}
 use Rattle.rk_model.specs.Text.Reading.{Fault, Reads, verdict, scenario_fault}
@@ -43,17 +42,3 @@ pub record IsFirstStop (lines : List (List ℕ)) (line : ℕ) : Type 0 where
 abbrev pub FaultsAtFirstStop : Type 0
 FaultsAtFirstStop = (bytes : List ℕ) (fault : Fault) → scenario_fault bytes ≡ Some fault
     → ((MOST_BYTES < length bytes) × (fault.line ≡ 0)) ⊎ ((length bytes ≤ MOST_BYTES) × IsFirstStop (lines_of bytes) fault.line)
-
--- The header is due behind so many lines: each of them is skipped, and the next line is missing or consists of allowed bytes.
-pub record IsHeaderDue (lines : List (List ℕ)) (count : ℕ) : Type 0 where
-  pub front : AllByRecursion (λ line. is_skipped (words_of line) ≡ true) (take count lines)
-  pub next : IfSome (slice_get lines count) (λ line. is_plain line ≡ true)
-
--- A fault has the reason `TooLarge` exactly where the text is larger than 1,048,576 bytes. In any other text it has the reason `Header` exactly where the header is due behind the lines in front of the fault's line. In every other case, therefore, its reason is `NotYetBuilt`.
-pub record HasItsReason (bytes : List ℕ) (fault : Fault) : Type 0 where
-  pub large : (fault.why ≡ TooLarge) ↔ (MOST_BYTES < length bytes)
-  pub header : length bytes ≤ MOST_BYTES → (fault.why ≡ Header) ↔ IsHeaderDue (lines_of bytes) (fault.line - 1)
-
--- Each fault has its reason.
-abbrev pub FaultsHaveTheirReasons : Type 0
-FaultsHaveTheirReasons = (bytes : List ℕ) (fault : Fault) → scenario_fault bytes ≡ Some fault → HasItsReason bytes fault

@@ -5,15 +5,14 @@ ghost use Rattle.rk_model.specs.Text.Reading as reading;
 ghost use Rattle.rk_scenario.specs.Drafts.{draft_of, phase_of, Follows, HasAtMost, most_bodies, IsSmall};
 
 use crate::errors::LineError;
-use crate::operands::{
-    body_number, body_operand, cluster_operand, is_body_name, name_operand, number_operand,
-};
+use crate::operands::{body_number, body_operand, cluster_operand, name_operand, number_operand};
 use crate::ops::read_op;
-use crate::words::{Word, is_skipped};
+use crate::words::is_skipped;
 use rk_model::limits::{
     LEAST_URGENT, MOST_BODIES, MOST_CLUSTERS, MOST_ENTRIES, MOST_LINES, MOST_OBJECTS,
     MOST_PROCESSORS, MOST_TICKS, USUAL_ENTRIES,
 };
+use rk_model::words::{Word, is_body_name};
 use rk_model::{Body, Init, Items, Prio, Scenario, ScenarioWhy};
 use std::alloc::Global;
 
@@ -122,7 +121,7 @@ fn read_init(scenario: &Scenario, operands: &[Word]) -> Result<Init, ScenarioWhy
                 body,
             })
         }
-        _ => Err(ScenarioWhy::NotYetBuilt),
+        _ => Err(ScenarioWhy::Word),
     }
 }
 
@@ -174,10 +173,10 @@ impl Draft {
                     self.phase = Phase::Clustered;
                     Ok(())
                 } else {
-                    Err(LineError::Fault(ScenarioWhy::NotYetBuilt))
+                    Err(LineError::Fault(ScenarioWhy::TooMany))
                 }
             }
-            _ => Err(LineError::Fault(ScenarioWhy::NotYetBuilt)),
+            _ => Err(LineError::Fault(ScenarioWhy::Word)),
         }
     }
 
@@ -195,7 +194,7 @@ impl Draft {
                 self.phase = Phase::Timed;
                 Ok(())
             }
-            _ => Err(LineError::Fault(ScenarioWhy::NotYetBuilt)),
+            _ => Err(LineError::Fault(ScenarioWhy::Word)),
         }
     }
 
@@ -213,7 +212,7 @@ impl Draft {
                 self.phase = Phase::Limited;
                 Ok(())
             }
-            _ => Err(LineError::Fault(ScenarioWhy::NotYetBuilt)),
+            _ => Err(LineError::Fault(ScenarioWhy::Word)),
         }
     }
 
@@ -228,9 +227,9 @@ impl Draft {
             [name] => {
                 let name = name.as_slice();
                 if !is_body_name(name) {
-                    Err(LineError::Fault(ScenarioWhy::NotYetBuilt))
+                    Err(LineError::Fault(ScenarioWhy::Word))
                 } else if body_number(self.scenario.bodies.as_slice(), name).is_some() {
-                    Err(LineError::Fault(ScenarioWhy::NotYetBuilt))
+                    Err(LineError::Fault(ScenarioWhy::Repeated))
                 } else if self.scenario.bodies.len() < MOST_BODIES {
                     self.body = Body {
                         name: Items::from_slice(alloc, name)?,
@@ -239,10 +238,10 @@ impl Draft {
                     self.phase = Phase::InBody;
                     Ok(())
                 } else {
-                    Err(LineError::Fault(ScenarioWhy::NotYetBuilt))
+                    Err(LineError::Fault(ScenarioWhy::TooMany))
                 }
             }
-            _ => Err(LineError::Fault(ScenarioWhy::NotYetBuilt)),
+            _ => Err(LineError::Fault(ScenarioWhy::Word)),
         }
     }
 
@@ -271,7 +270,7 @@ impl Draft {
             self.body.lines.push(op)?;
             Ok(())
         } else {
-            Err(LineError::Fault(ScenarioWhy::NotYetBuilt))
+            Err(LineError::Fault(ScenarioWhy::TooMany))
         }
     }
 
@@ -288,7 +287,7 @@ impl Draft {
             self.phase = Phase::InInits;
             Ok(())
         } else {
-            Err(LineError::Fault(ScenarioWhy::NotYetBuilt))
+            Err(LineError::Fault(ScenarioWhy::TooMany))
         }
     }
 
@@ -302,7 +301,7 @@ impl Draft {
             [first, operands @ ..] if first.as_slice() == b"cluster".as_slice() => {
                 self.take_cluster(operands)
             }
-            _ => Err(LineError::Fault(ScenarioWhy::NotYetBuilt)),
+            _ => Err(LineError::Fault(ScenarioWhy::Word)),
         }
     }
 
@@ -358,7 +357,7 @@ impl Draft {
             [first, operands @ ..] if first.as_slice() == b"init".as_slice() => {
                 self.take_init(operands)
             }
-            _ => Err(LineError::Fault(ScenarioWhy::NotYetBuilt)),
+            _ => Err(LineError::Fault(ScenarioWhy::Word)),
         }
     }
 

@@ -1,19 +1,22 @@
-ghost use Rattle.std.specs.Prelude.{◌≡◌, ◌<◌, ◌+◌, [], ◌∷◌, length, take, drop, IfSome, MatchOption};
-ghost use Rattle.rk_model.specs.Text.Words.{lines_of, lines_from, last_line};
+ghost use Rattle.std.specs.Prelude.{◌≡◌, ◌<◌, [], ◌∷◌, length, IfSome, MatchOption};
+ghost use Rattle.rk_model.specs.Text.Words.{lines_of};
 
-/// The first line of a text, and the text behind it; `None` where there is no line.
-pub(crate) fn split_line(text: &[u8]) -> Option<(&[u8], &[u8])>
+use rk_model::words::split_line;
+
+/// The first line of a text, and the text behind it; `None` where there is no line. The last line may
+/// lack its line feed.
+pub(crate) fn next_line(text: &[u8]) -> Option<(&[u8], &[u8])>
     ensures lines { MatchOption result (lines_of text.now ≡ []) (λ p. lines_of text.now ≡ p.0.now ∷ lines_of p.1.now) }
     ensures less { IfSome result (λ p. length p.1.now < length text.now) }
 {
-    for (at, byte) in text.iter().enumerate() {
-        if *byte == b'\n' {
-            return Some((&text[..at], &text[at + 1..]));
+    match split_line(text) {
+        Some(parts) => Some(parts),
+        None => {
+            if text.is_empty() {
+                None
+            } else {
+                Some((text, &[]))
+            }
         }
-    }
-    if text.is_empty() {
-        None
-    } else {
-        Some((text, &[]))
     }
 }

@@ -1,11 +1,11 @@
-ghost use Rattle.std.specs.Prelude.{◌≡◌, ◌<◌, ◌≤◌, ◌+◌, ◌*◌, ◌^◌, length, min, slice_get, codes, IfSome, IfOk};
+ghost use Rattle.std.specs.Prelude.{◌≡◌, ◌<◌, ◌≤◌, ◌+◌, ◌*◌, ◌^◌, length, min, slice_get, codes, IfSome, IfOk, None, Err};
 ghost use Rattle.std.specs.Option.{option_map};
-ghost use Rattle.std.specs.List.{list_all};
 ghost use Rattle.rk_model.specs.declared.limits.TheConstants.{MOST_LINES};
-ghost use Rattle.rk_model.specs.Text.Words.{digit_value, digit_below, value_from, decimal_of, number_of, name_of, var_of, is_name_byte, is_lower, is_body_byte, is_body_name};
+ghost use Rattle.rk_model.specs.Text.Words.{digit_value, digit_below, value_from, decimal_of, number_of, name_of, var_of, is_name_byte};
 ghost use Rattle.rk_model.specs.Text.Scenarios.{body_of, body_known, body_from, is_named, may_be_target, is_target};
-ghost use Rattle.rk_model.specs.Text.Reading.{known_at, number_operand, cluster_operand, var_operand, given_operand, fixed_operand, id_operand, address_operand, goto_operand, name_operand, name0_operand, body_operand, start_operand, either_operand, wish_operand, semaphore_kind_operand, order_operand, protocol_operand};
+ghost use Rattle.rk_model.specs.Text.Reading.{body_told, known_at, number_operand, cluster_operand, var_operand, given_operand, fixed_operand, id_operand, address_operand, goto_operand, name_operand, name0_operand, body_operand, start_operand, either_operand, wish_operand, semaphore_kind_operand, order_operand, protocol_operand};
 
+use rk_model::words::is_body_name;
 use rk_model::{Body, Name, Op, Order, Protocol, Scenario, ScenarioWhy, SemKind, Target, Wish};
 
 /// Greater than every number that a line may have. Numbers of any length are read, and greater
@@ -75,7 +75,8 @@ pub(crate) fn number_operand(least: u32, most: u32, word: &[u8]) -> Result<u32, 
         Some(number) if u64::from(least) <= number && number <= u64::from(most) => {
             Ok(number as u32)
         }
-        _ => Err(ScenarioWhy::NotYetBuilt),
+        Some(_) => Err(ScenarioWhy::Range),
+        None => Err(ScenarioWhy::Number),
     }
 }
 
@@ -94,7 +95,8 @@ pub(crate) fn cluster_operand(count: usize, word: &[u8]) -> Result<u8, ScenarioW
 {
     match number(word) {
         Some(number) if number < count as u64 => Ok(number as u8),
-        _ => Err(ScenarioWhy::NotYetBuilt),
+        Some(_) => Err(ScenarioWhy::Range),
+        None => Err(ScenarioWhy::Number),
     }
 }
 
@@ -116,7 +118,7 @@ pub(crate) fn var_operand(word: &[u8]) -> Result<u8, ScenarioWhy>
 {
     match variable(word) {
         Some(var) => Ok(var),
-        None => Err(ScenarioWhy::NotYetBuilt),
+        None => Err(ScenarioWhy::Word),
     }
 }
 
@@ -172,7 +174,7 @@ fn either_operand(first: &[u8], second: &[u8], word: &[u8]) -> Result<bool, Scen
     } else if word == first {
         Ok(false)
     } else {
-        Err(ScenarioWhy::NotYetBuilt)
+        Err(ScenarioWhy::Word)
     }
 }
 
@@ -215,7 +217,7 @@ pub(crate) fn semaphore_kind_operand(word: &[u8]) -> Result<SemKind, ScenarioWhy
     } else if word == b"binary".as_slice() {
         Ok(SemKind::Binary)
     } else {
-        Err(ScenarioWhy::NotYetBuilt)
+        Err(ScenarioWhy::Word)
     }
 }
 
@@ -229,7 +231,7 @@ pub(crate) fn order_operand(word: &[u8]) -> Result<Order, ScenarioWhy>
     } else if word == b"priority".as_slice() {
         Ok(Order::Priority)
     } else {
-        Err(ScenarioWhy::NotYetBuilt)
+        Err(ScenarioWhy::Word)
     }
 }
 
@@ -241,7 +243,7 @@ pub(crate) fn protocol_operand(word: &[u8]) -> Result<Protocol, ScenarioWhy>
     if word == b"none".as_slice() {
         Ok(Protocol::NoProtocol)
     } else {
-        Err(ScenarioWhy::NotYetBuilt)
+        Err(ScenarioWhy::Word)
     }
 }
 
@@ -282,7 +284,8 @@ pub(crate) fn goto_operand(earlier: &[Op], word: &[u8]) -> Result<u32, ScenarioW
 {
     match number(word) {
         Some(number) if is_target(earlier, number) => Ok(number as u32),
-        _ => Err(ScenarioWhy::NotYetBuilt),
+        Some(_) => Err(ScenarioWhy::Range),
+        None => Err(ScenarioWhy::Number),
     }
 }
 
@@ -306,7 +309,7 @@ pub(crate) fn name_operand(word: &[u8]) -> Result<Name, ScenarioWhy>
                 bits: (high * 256 + u32::from(*c)) * 256 + u32::from(*d),
             })
         }
-        _ => Err(ScenarioWhy::NotYetBuilt),
+        _ => Err(ScenarioWhy::Word),
     }
 }
 
@@ -319,38 +322,6 @@ pub(crate) fn name0_operand(word: &[u8]) -> Result<Name, ScenarioWhy>
         Ok(Name { bits: 0 })
     } else {
         name_operand(word)
-    }
-}
-
-/// Whether a byte is a small letter.
-fn is_lower(byte: u8) -> bool
-    ensures { result ≡ is_lower byte }
-{
-    byte.is_ascii_lowercase()
-}
-
-/// Whether a byte may stand in a body's name.
-fn is_body_byte(byte: u8) -> bool
-    ensures { result ≡ is_body_byte byte }
-{
-    matches!(byte, b'a'..=b'z' | b'0'..=b'9' | b'_')
-}
-
-/// Whether all bytes may stand in a body's name.
-fn are_body_bytes(bytes: &[u8]) -> bool
-    ensures { result ≡ list_all is_body_byte bytes.now }
-{
-    bytes.iter().all(|b| is_body_byte(*b))
-}
-
-/// Whether a word may be a body's name.
-#[tactic(auto, unfolding(rk_model::specs::Text::Words::is_body_name))]
-pub(crate) fn is_body_name(word: &[u8]) -> bool
-    ensures { result ≡ is_body_name word.now }
-{
-    match word {
-        [] => false,
-        [first, more @ ..] => { is_lower(*first) && are_body_bytes(more) && more.len() <= 15 }
     }
 }
 
@@ -367,6 +338,17 @@ pub(crate) fn body_number(bodies: &[Body], name: &[u8]) -> Option<usize>
     None
 }
 
+/// Why a word is no name of a body that is known.
+fn no_body(word: &[u8]) -> ScenarioWhy
+    ensures { Err result ≡ body_told word.now None }
+{
+    if is_body_name(word) {
+        ScenarioWhy::UnknownName
+    } else {
+        ScenarioWhy::Word
+    }
+}
+
 /// The number of the body whose name a word is.
 #[tactic(auto, unfolding(rk_model::specs::Text::Reading::body_operand))]
 pub(crate) fn body_operand(bodies: &[Body], word: &[u8]) -> Result<u8, ScenarioWhy>
@@ -375,7 +357,7 @@ pub(crate) fn body_operand(bodies: &[Body], word: &[u8]) -> Result<u8, ScenarioW
 {
     match body_number(bodies, word) {
         Some(body) => Ok(body as u8),
-        None => Err(ScenarioWhy::NotYetBuilt),
+        None => Err(no_body(word)),
     }
 }
 
@@ -404,6 +386,6 @@ pub(crate) fn start_operand(
 {
     match known_body(scenario.bodies.as_slice(), body.name.as_slice(), word) {
         Some(number) => Ok(number as u8),
-        None => Err(ScenarioWhy::NotYetBuilt),
+        None => Err(no_body(word)),
     }
 }

@@ -8,8 +8,8 @@ use crate::operands::{
     name_operand, name0_operand, number_operand, order_operand, protocol_operand,
     semaphore_kind_operand, start_operand, var_operand, wish_operand,
 };
-use crate::words::Word;
 use rk_model::limits::MOST_TICKS;
+use rk_model::words::Word;
 use rk_model::{Body, Op, Scenario, ScenarioWhy, SemSpec};
 
 /// What a line of an open body stands for behind the lines that this has so far, by its words.
@@ -21,9 +21,9 @@ pub(crate) fn read_op(scenario: &Scenario, body: &Body, words: &[Word]) -> Resul
     ensures { result ≡ op_line (known_at scenario.now body.now) words.now }
 {
     match words {
-        [] => Err(ScenarioWhy::NotYetBuilt),
+        [] => Err(ScenarioWhy::Word),
         [first, operands @ ..] => match Op::of_word(first.as_slice()) {
-            None => Err(ScenarioWhy::NotYetBuilt),
+            None => Err(ScenarioWhy::Word),
             Some(form) => read_form(scenario, body, form, operands),
         },
     }
@@ -53,7 +53,7 @@ fn read_form(
             c.as_slice(),
         ),
         [_, _, _, _, ..] => read_long_form(scenario, body, form, operands),
-        _ => Err(ScenarioWhy::NotYetBuilt),
+        _ => Err(ScenarioWhy::Word),
     }
 }
 
@@ -103,7 +103,7 @@ fn read_long_form(
             f.as_slice(),
             g.as_slice(),
         ),
-        _ => Err(ScenarioWhy::NotYetBuilt),
+        _ => Err(ScenarioWhy::Word),
     }
 }
 
@@ -128,7 +128,7 @@ fn read_one(scenario: &Scenario, body: &Body, form: Op, a: &[u8]) -> Result<Op, 
         Op::PartDelete(_) => Ok(Op::PartDelete(id_operand(a)?)),
         Op::PeriodCancel(_) => Ok(Op::PeriodCancel(id_operand(a)?)),
         Op::PeriodDelete(_) => Ok(Op::PeriodDelete(id_operand(a)?)),
-        _ => Err(ScenarioWhy::NotYetBuilt),
+        _ => Err(ScenarioWhy::Word),
     }
 }
 
@@ -160,7 +160,7 @@ fn read_two(
         Op::PeriodCreate(_, _) => Ok(Op::PeriodCreate(name0_operand(a)?, var_operand(b)?)),
         Op::PeriodIdent(_, _) => Ok(Op::PeriodIdent(name_operand(a)?, var_operand(b)?)),
         Op::PeriodPeriod(_, _) => Ok(Op::PeriodPeriod(id_operand(a)?, any_operand(b)?)),
-        _ => Err(ScenarioWhy::NotYetBuilt),
+        _ => Err(ScenarioWhy::Word),
     }
 }
 
@@ -189,7 +189,7 @@ fn read_three(
             any_operand(b)?,
             var_operand(c)?,
         )),
-        _ => Err(ScenarioWhy::NotYetBuilt),
+        _ => Err(ScenarioWhy::Word),
     }
 }
 
@@ -221,7 +221,7 @@ fn read_four(
             any_operand(c)?,
             var_operand(d)?,
         )),
-        _ => Err(ScenarioWhy::NotYetBuilt),
+        _ => Err(ScenarioWhy::Word),
     }
 }
 
@@ -249,7 +249,7 @@ fn read_five(
             any_operand(d)?,
             var_operand(e)?,
         )),
-        _ => Err(ScenarioWhy::NotYetBuilt),
+        _ => Err(ScenarioWhy::Word),
     }
 }
 
@@ -283,6 +283,6 @@ fn read_seven(
             },
             var_operand(g)?,
         )),
-        _ => Err(ScenarioWhy::NotYetBuilt),
+        _ => Err(ScenarioWhy::Word),
     }
 }

@@ -1,14 +1,14 @@
 ghost use Rattle.std.specs.Prelude.{◌≡◌, ◌<◌, ◌≤◌, ◌+◌, ◌^◌, length, IfOk, IfErr, OnOk};
 ghost use Rattle.rk_model.specs.declared.scenario.Scenario.{Scenario};
 ghost use Rattle.rk_model.specs.Text.Scenarios.{ScenarioText, IsScenario};
-ghost use Rattle.rk_model.specs.Text.Words.{lines_of, lines_from};
+ghost use Rattle.rk_model.specs.Text.Words.{lines_of};
 ghost use Rattle.rk_model.specs.Text.Reading.{verdict, verdict_from, at_end, after_line, start};
 ghost use Rattle.rk_scenario.specs.Drafts.{draft_of, phase_of, Follows, IsSmall};
 ghost use Rattle.rk_scenario.specs.ReadingAnswers.{Answers, Advances, IsRefusal, Gives};
 
 use crate::draft::{Draft, Phase};
 use crate::errors::{LineError, ScenarioError};
-use crate::lines::split_line;
+use crate::lines::next_line;
 use crate::words::{find_words, is_plain};
 use rk_model::limits::MOST_BYTES;
 use rk_model::{Scenario, ScenarioWhy};
@@ -25,7 +25,7 @@ fn take_line(alloc: Global, draft: &mut Draft, line: &[u8]) -> Result<(), LineEr
         let words = find_words(alloc, line)?;
         draft.take_words(alloc, words.as_slice())
     } else {
-        Err(LineError::Fault(ScenarioWhy::NotYetBuilt))
+        Err(LineError::Fault(ScenarioWhy::NotAscii))
     }
 }
 
@@ -49,7 +49,7 @@ fn finish(draft: Draft, number: u32) -> Result<Scenario, ScenarioError>
     let why = match draft.phase {
         Phase::Timed | Phase::Limited | Phase::InInits => return Ok(draft.scenario),
         Phase::Start => ScenarioWhy::Header,
-        Phase::Headed | Phase::Clustered | Phase::InBody => ScenarioWhy::NotYetBuilt,
+        Phase::Headed | Phase::Clustered | Phase::InBody => ScenarioWhy::MissingEnd,
     };
     Err(ScenarioError::Refused { line: number, why })
 }
@@ -62,7 +62,7 @@ fn read_lines(alloc: Global, bytes: &[u8]) -> Result<Scenario, ScenarioError>
     let mut draft = Draft::new(alloc);
     let mut number: u32 = 1;
     let mut rest = bytes;
-    while let Some((line, after)) = split_line(rest) {
+    while let Some((line, after)) = next_line(rest) {
         advance(alloc, &mut draft, line, number)?;
         number += 1;
         rest = after;

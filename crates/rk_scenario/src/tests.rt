@@ -8,7 +8,21 @@ use std::test::Fail;
 
 const HEADER: ScenarioWhy = ScenarioWhy::Header;
 
-const NOT_YET: ScenarioWhy = ScenarioWhy::NotYetBuilt;
+const WORD: ScenarioWhy = ScenarioWhy::Word;
+
+const NUMBER: ScenarioWhy = ScenarioWhy::Number;
+
+const RANGE: ScenarioWhy = ScenarioWhy::Range;
+
+const UNKNOWN: ScenarioWhy = ScenarioWhy::UnknownName;
+
+const REPEATED: ScenarioWhy = ScenarioWhy::Repeated;
+
+const TOO_MANY: ScenarioWhy = ScenarioWhy::TooMany;
+
+const MISSING_END: ScenarioWhy = ScenarioWhy::MissingEnd;
+
+const NOT_ASCII: ScenarioWhy = ScenarioWhy::NotAscii;
 
 /// The front of a text that stands before its bodies: three lines.
 const FRONT: &str = "rtems 1\ncluster 1\nticks 0\n";
@@ -56,11 +70,11 @@ fn refuses_lines(rt: HostRuntime) {
         ("# none\n \n", 3, HEADER),
         ("rtems 2\n", 1, HEADER),
         ("rtems 1 1\n", 1, HEADER),
-        ("\trtems 1\n", 1, NOT_YET),
-        ("# \u{7f}\nrtems 1\n", 1, NOT_YET),
-        ("rtems 1\nticks 0\n", 2, NOT_YET),
-        ("rtems 1\n\n# none\ncluster 1\nticks 1000001\n", 5, NOT_YET),
-        ("rtems 1\ncluster 1\n# none", 4, NOT_YET),
+        ("\trtems 1\n", 1, NOT_ASCII),
+        ("# \u{7f}\nrtems 1\n", 1, NOT_ASCII),
+        ("rtems 1\nticks 0\n", 2, WORD),
+        ("rtems 1\n\n# none\ncluster 1\nticks 1000001\n", 5, RANGE),
+        ("rtems 1\ncluster 1\n# none", 4, MISSING_END),
     ];
     for (text, line, why) in rows {
         let want = Some(ScenarioError::Refused { line, why });
@@ -71,16 +85,20 @@ fn refuses_lines(rt: HostRuntime) {
 #[test]
 fn refuses_clusters(rt: HostRuntime) -> Result<(), Fail> {
     let rows = [
-        ("cluster 0\n", 2),
-        ("cluster 9\n", 2),
-        ("cluster 4\ncluster 5\n", 3),
-        ("cluster 8\ncluster 1\n", 3),
-        ("cluster 1\ncluster 1\ncluster 1\ncluster 1\ncluster 1\n", 6),
-        ("cluster 1\nticks 0\ncluster 1\n", 4),
+        ("cluster 0\n", 2, RANGE),
+        ("cluster 9\n", 2, RANGE),
+        ("cluster 4\ncluster 5\n", 3, TOO_MANY),
+        ("cluster 8\ncluster 1\n", 3, TOO_MANY),
+        (
+            "cluster 1\ncluster 1\ncluster 1\ncluster 1\ncluster 1\n",
+            6,
+            TOO_MANY,
+        ),
+        ("cluster 1\nticks 0\ncluster 1\n", 4, WORD),
     ];
-    for (tail, line) in rows {
+    for (tail, line, why) in rows {
         let text = repeated(rt.alloc(), "rtems 1\n", tail, 1, "")?;
-        let want = Some(ScenarioError::Refused { line, why: NOT_YET });
+        let want = Some(ScenarioError::Refused { line, why });
         assert_eq!(rt; refusal(rt.alloc(), text.as_bytes()), want, "{tail}");
     }
     Ok(())
@@ -89,47 +107,51 @@ fn refuses_clusters(rt: HostRuntime) -> Result<(), Fail> {
 #[test]
 fn refuses_bodies_and_inits(rt: HostRuntime) -> Result<(), Fail> {
     let rows = [
-        ("body b\nwork 1", 6),
-        ("body b\nwork 0\nend\n", 5),
-        ("body b\nwork 01\nend\n", 5),
-        ("body b\nwork 1000001\nend\n", 5),
-        ("body b\nwork 1 1\nend\n", 5),
-        ("body b\nend x\n", 5),
-        ("body b\ntask.wake_after 4294967296\nend\n", 5),
-        ("body b\ntask.wake_after 99999999999999999999\nend\n", 5),
-        ("body b\ntask.wake_after 0x0000001\nend\n", 5),
-        ("body b\ntask.wake_after 0x0000000A\nend\n", 5),
-        ("limit 0\n", 4),
-        ("limit 1000001\n", 4),
-        ("limit 5\nlimit 5\n", 5),
-        ("body b\nend\nlimit 5\n", 6),
-        ("body b\ngoto 0\nend\n", 5),
-        ("body b\ngoto 1\nend\n", 5),
-        ("body b\ngoto 2\nwork 1\nend\n", 5),
-        ("body b\nwork 1\ngoto 2\nend\n", 6),
-        ("body b\nwork 1\ngoto 1\ngoto 2\nend\n", 7),
-        ("body b\nwork 1\ngoto 4294967297\nend\n", 6),
-        ("body b\nwork 1\nend\nbody c\ngoto 1\nend\n", 8),
-        ("body b\ntask.suspend own\nend\n", 5),
-        ("body b\ntask.resume 1a\nend\n", 5),
-        ("body b\ntask.suspend\nend\n", 5),
-        ("body b\ntask.resume 4294967296\nend\n", 5),
-        ("body B\nend\n", 4),
-        ("body 1b\nend\n", 4),
-        ("body bbbbbbbbbbbbbbbbb\nend\n", 4),
-        ("body b\nend\nbody b\nend\n", 6),
-        ("body b\nend\ninit AAAA 0 1 b\nbody c\nend\n", 7),
-        ("body b\nend\ninit AAAA 0 1 c\n", 6),
-        ("body b\nend\ninit AAA 0 1 b\n", 6),
-        ("body b\nend\ninit AA-A 0 1 b\n", 6),
-        ("body b\nend\ninit AAAA 1 1 b\n", 6),
-        ("body b\nend\ninit AAAA 0 0 b\n", 6),
-        ("body b\nend\ninit AAAA 0 256 b\n", 6),
-        ("body b\nend\ninit AAAA 0 1\n", 6),
+        ("body b\nwork 1", 6, MISSING_END),
+        ("body b\nwork 0\nend\n", 5, RANGE),
+        ("body b\nwork 01\nend\n", 5, NUMBER),
+        ("body b\nwork 1000001\nend\n", 5, RANGE),
+        ("body b\nwork 1 1\nend\n", 5, WORD),
+        ("body b\nend x\n", 5, WORD),
+        ("body b\ntask.wake_after 4294967296\nend\n", 5, RANGE),
+        (
+            "body b\ntask.wake_after 99999999999999999999\nend\n",
+            5,
+            RANGE,
+        ),
+        ("body b\ntask.wake_after 0x0000001\nend\n", 5, NUMBER),
+        ("body b\ntask.wake_after 0x0000000A\nend\n", 5, NUMBER),
+        ("limit 0\n", 4, RANGE),
+        ("limit 1000001\n", 4, RANGE),
+        ("limit 5\nlimit 5\n", 5, WORD),
+        ("body b\nend\nlimit 5\n", 6, WORD),
+        ("body b\ngoto 0\nend\n", 5, RANGE),
+        ("body b\ngoto 1\nend\n", 5, RANGE),
+        ("body b\ngoto 2\nwork 1\nend\n", 5, RANGE),
+        ("body b\nwork 1\ngoto 2\nend\n", 6, RANGE),
+        ("body b\nwork 1\ngoto 1\ngoto 2\nend\n", 7, RANGE),
+        ("body b\nwork 1\ngoto 4294967297\nend\n", 6, RANGE),
+        ("body b\nwork 1\nend\nbody c\ngoto 1\nend\n", 8, RANGE),
+        ("body b\ntask.suspend own\nend\n", 5, NUMBER),
+        ("body b\ntask.resume 1a\nend\n", 5, NUMBER),
+        ("body b\ntask.suspend\nend\n", 5, WORD),
+        ("body b\ntask.resume 4294967296\nend\n", 5, RANGE),
+        ("body B\nend\n", 4, WORD),
+        ("body 1b\nend\n", 4, WORD),
+        ("body bbbbbbbbbbbbbbbbb\nend\n", 4, WORD),
+        ("body b\nend\nbody b\nend\n", 6, REPEATED),
+        ("body b\nend\ninit AAAA 0 1 b\nbody c\nend\n", 7, WORD),
+        ("body b\nend\ninit AAAA 0 1 c\n", 6, UNKNOWN),
+        ("body b\nend\ninit AAA 0 1 b\n", 6, WORD),
+        ("body b\nend\ninit AA-A 0 1 b\n", 6, WORD),
+        ("body b\nend\ninit AAAA 1 1 b\n", 6, RANGE),
+        ("body b\nend\ninit AAAA 0 0 b\n", 6, RANGE),
+        ("body b\nend\ninit AAAA 0 256 b\n", 6, RANGE),
+        ("body b\nend\ninit AAAA 0 1\n", 6, WORD),
     ];
-    for (tail, line) in rows {
+    for (tail, line, why) in rows {
         let text = repeated(rt.alloc(), FRONT, tail, 1, "")?;
-        let want = Some(ScenarioError::Refused { line, why: NOT_YET });
+        let want = Some(ScenarioError::Refused { line, why });
         assert_eq!(rt; refusal(rt.alloc(), text.as_bytes()), want, "{tail}");
     }
     Ok(())
@@ -138,107 +160,104 @@ fn refuses_bodies_and_inits(rt: HostRuntime) -> Result<(), Fail> {
 #[test]
 fn refuses_lines_of_managers(rt: HostRuntime) -> Result<(), Fail> {
     let rows = [
-        "task.create AAAA 1\n",
-        "task.create AAAA 1 v0 v1\n",
-        "task.create AAAAA 1 v0\n",
-        "task.create -- 1 v0\n",
-        "task.create AAAA 4294967296 v0\n",
-        "task.create AAAA x v0\n",
-        "task.create AAAA 1 v8\n",
-        "task.create AAAA 1 v\n",
-        "task.create AAAA 1 v00\n",
-        "task.create AAAA 1 V0\n",
-        "task.ident - v0\n",
-        "task.ident AAAAA v0\n",
-        "task.ident AAAA v8\n",
-        "task.ident AAAA\n",
-        "task.ident AAAA v0 v1\n",
-        "task.start v0\n",
-        "task.start v0 b b\n",
-        "task.start v8 b\n",
-        "task.start v0 c\n",
-        "task.set_priority v0 1\n",
-        "task.set_priority v0 1 v0 v0\n",
-        "task.set_priority v8 1 v0\n",
-        "task.set_priority v0 4294967296 v0\n",
-        "task.set_priority v0 -1 v0\n",
-        "task.set_priority v0 1 v8\n",
-        "task.delete\n",
-        "task.delete v8\n",
-        "task.delete v0 v1\n",
-        "event.send v0\n",
-        "event.send v8 1\n",
-        "event.send v0 4294967296\n",
-        "event.receive 1 any nowait\n",
-        "event.receive 1 any nowait v0 v1\n",
-        "event.receive 1 some 0 v0\n",
-        "event.receive 1 any never v0\n",
-        "event.receive 1 any 4294967296 v0\n",
-        "event.receive 1 all nowait v8\n",
-        "barrier.create AAAA auto 1\n",
-        "barrier.create AAAA auto 1 v0 v1\n",
-        "barrier.create AAAAA auto 1 v0\n",
-        "barrier.create AAAA automatic 1 v0\n",
-        "barrier.create AAAA any 1 v0\n",
-        "barrier.create AAAA manual 4294967296 v0\n",
-        "barrier.create AAAA manual 0 v8\n",
-        "barrier.ident - v0\n",
-        "barrier.ident AAAA v8\n",
-        "barrier.ident AAAA\n",
-        "barrier.wait v0\n",
-        "barrier.wait v8 1\n",
-        "barrier.wait v0 nowait\n",
-        "barrier.wait v0 4294967296\n",
-        "barrier.release v0\n",
-        "barrier.release v8 v0\n",
-        "barrier.release v0 1\n",
-        "barrier.delete\n",
-        "barrier.delete v8\n",
-        "barrier.delete v0 v1\n",
-        "part.create AAAA 0 64 8\n",
-        "part.create AAAA 0 64 8 v0 v1\n",
-        "part.create AAAAA 0 64 8 v0\n",
-        "part.create AAAA v0 64 8 v0\n",
-        "part.create AAAA 0 4294967296 8 v0\n",
-        "part.create AAAA 0 64 x v0\n",
-        "part.create AAAA 0 64 8 v8\n",
-        "part.ident - v0\n",
-        "part.ident AAAA v8\n",
-        "part.ident AAAA\n",
-        "part.get v0\n",
-        "part.get v8 v0\n",
-        "part.get v0 1\n",
-        "part.return v0\n",
-        "part.return v0 self\n",
-        "part.return v0 v8\n",
-        "part.return v0 4294967296\n",
-        "part.delete\n",
-        "part.delete v8\n",
-        "part.delete v0 v1\n",
-        "period.create AAAA\n",
-        "period.create AAAA v0 v1\n",
-        "period.create AAAAA v0\n",
-        "period.create AAAA v8\n",
-        "period.ident - v0\n",
-        "period.ident AAAA\n",
-        "period.ident AAAA v8\n",
-        "period.period v0\n",
-        "period.period v8 1\n",
-        "period.period v0 v1\n",
-        "period.period v0 nowait\n",
-        "period.period v0 4294967296\n",
-        "period.cancel\n",
-        "period.cancel v8\n",
-        "period.cancel v0 v1\n",
-        "period.delete\n",
-        "period.delete v8\n",
-        "period.delete v0 v1\n",
+        ("task.create AAAA 1\n", WORD),
+        ("task.create AAAA 1 v0 v1\n", WORD),
+        ("task.create AAAAA 1 v0\n", WORD),
+        ("task.create -- 1 v0\n", WORD),
+        ("task.create AAAA 4294967296 v0\n", RANGE),
+        ("task.create AAAA x v0\n", NUMBER),
+        ("task.create AAAA 1 v8\n", WORD),
+        ("task.create AAAA 1 v\n", WORD),
+        ("task.create AAAA 1 v00\n", WORD),
+        ("task.create AAAA 1 V0\n", WORD),
+        ("task.ident - v0\n", WORD),
+        ("task.ident AAAAA v0\n", WORD),
+        ("task.ident AAAA v8\n", WORD),
+        ("task.ident AAAA\n", WORD),
+        ("task.ident AAAA v0 v1\n", WORD),
+        ("task.start v0\n", WORD),
+        ("task.start v0 b b\n", WORD),
+        ("task.start v8 b\n", NUMBER),
+        ("task.start v0 c\n", UNKNOWN),
+        ("task.set_priority v0 1\n", WORD),
+        ("task.set_priority v0 1 v0 v0\n", WORD),
+        ("task.set_priority v8 1 v0\n", NUMBER),
+        ("task.set_priority v0 4294967296 v0\n", RANGE),
+        ("task.set_priority v0 -1 v0\n", NUMBER),
+        ("task.set_priority v0 1 v8\n", WORD),
+        ("task.delete\n", WORD),
+        ("task.delete v8\n", NUMBER),
+        ("task.delete v0 v1\n", WORD),
+        ("event.send v0\n", WORD),
+        ("event.send v8 1\n", NUMBER),
+        ("event.send v0 4294967296\n", RANGE),
+        ("event.receive 1 any nowait\n", WORD),
+        ("event.receive 1 any nowait v0 v1\n", WORD),
+        ("event.receive 1 some 0 v0\n", WORD),
+        ("event.receive 1 any never v0\n", NUMBER),
+        ("event.receive 1 any 4294967296 v0\n", RANGE),
+        ("event.receive 1 all nowait v8\n", WORD),
+        ("barrier.create AAAA auto 1\n", WORD),
+        ("barrier.create AAAA auto 1 v0 v1\n", WORD),
+        ("barrier.create AAAAA auto 1 v0\n", WORD),
+        ("barrier.create AAAA automatic 1 v0\n", WORD),
+        ("barrier.create AAAA any 1 v0\n", WORD),
+        ("barrier.create AAAA manual 4294967296 v0\n", RANGE),
+        ("barrier.create AAAA manual 0 v8\n", WORD),
+        ("barrier.ident - v0\n", WORD),
+        ("barrier.ident AAAA v8\n", WORD),
+        ("barrier.ident AAAA\n", WORD),
+        ("barrier.wait v0\n", WORD),
+        ("barrier.wait v8 1\n", NUMBER),
+        ("barrier.wait v0 nowait\n", NUMBER),
+        ("barrier.wait v0 4294967296\n", RANGE),
+        ("barrier.release v0\n", WORD),
+        ("barrier.release v8 v0\n", NUMBER),
+        ("barrier.release v0 1\n", WORD),
+        ("barrier.delete\n", WORD),
+        ("barrier.delete v8\n", NUMBER),
+        ("barrier.delete v0 v1\n", WORD),
+        ("part.create AAAA 0 64 8\n", WORD),
+        ("part.create AAAA 0 64 8 v0 v1\n", WORD),
+        ("part.create AAAAA 0 64 8 v0\n", WORD),
+        ("part.create AAAA v0 64 8 v0\n", NUMBER),
+        ("part.create AAAA 0 4294967296 8 v0\n", RANGE),
+        ("part.create AAAA 0 64 x v0\n", NUMBER),
+        ("part.create AAAA 0 64 8 v8\n", WORD),
+        ("part.ident - v0\n", WORD),
+        ("part.ident AAAA v8\n", WORD),
+        ("part.ident AAAA\n", WORD),
+        ("part.get v0\n", WORD),
+        ("part.get v8 v0\n", NUMBER),
+        ("part.get v0 1\n", WORD),
+        ("part.return v0\n", WORD),
+        ("part.return v0 self\n", NUMBER),
+        ("part.return v0 v8\n", NUMBER),
+        ("part.return v0 4294967296\n", RANGE),
+        ("part.delete\n", WORD),
+        ("part.delete v8\n", NUMBER),
+        ("part.delete v0 v1\n", WORD),
+        ("period.create AAAA\n", WORD),
+        ("period.create AAAA v0 v1\n", WORD),
+        ("period.create AAAAA v0\n", WORD),
+        ("period.create AAAA v8\n", WORD),
+        ("period.ident - v0\n", WORD),
+        ("period.ident AAAA\n", WORD),
+        ("period.ident AAAA v8\n", WORD),
+        ("period.period v0\n", WORD),
+        ("period.period v8 1\n", NUMBER),
+        ("period.period v0 v1\n", NUMBER),
+        ("period.period v0 nowait\n", NUMBER),
+        ("period.period v0 4294967296\n", RANGE),
+        ("period.cancel\n", WORD),
+        ("period.cancel v8\n", NUMBER),
+        ("period.cancel v0 v1\n", WORD),
+        ("period.delete\n", WORD),
+        ("period.delete v8\n", NUMBER),
+        ("period.delete v0 v1\n", WORD),
     ];
-    let want = Some(ScenarioError::Refused {
-        line: 5,
-        why: NOT_YET,
-    });
-    for row in rows {
+    for (row, why) in rows {
+        let want = Some(ScenarioError::Refused { line: 5, why });
         assert_eq!(rt; refusal_of_line(rt.alloc(), row)?, want, "{row}");
     }
     Ok(())
@@ -247,45 +266,48 @@ fn refuses_lines_of_managers(rt: HostRuntime) -> Result<(), Fail> {
 #[test]
 fn refuses_lines_of_semaphores(rt: HostRuntime) -> Result<(), Fail> {
     let rows = [
-        "sem.create AAAA 1 counting fifo none 0\n",
-        "sem.create AAAA 1 counting fifo none v0\n",
-        "sem.create AAAA 1 counting fifo none 0 v0 v1\n",
-        "sem.create AAAAA 1 counting fifo none 0 v0\n",
-        "sem.create AAAA x counting fifo none 0 v0\n",
-        "sem.create AAAA 4294967296 counting fifo none 0 v0\n",
-        "sem.create AAAA 1 mutex fifo none 0 v0\n",
-        "sem.create AAAA 1 fifo counting none 0 v0\n",
-        "sem.create AAAA 1 Simple fifo none 0 v0\n",
-        "sem.create AAAA 1 binary lifo none 0 v0\n",
-        "sem.create AAAA 1 binary prio none 0 v0\n",
-        "sem.create AAAA 1 binary priority inherit 0 v0\n",
-        "sem.create AAAA 1 binary priority ceiling 1 v0\n",
-        "sem.create AAAA 1 binary priority mrsp 1 v0\n",
-        "sem.create AAAA 1 binary priority - 0 v0\n",
-        "sem.create AAAA 1 binary priority none 4294967296 v0\n",
-        "sem.create AAAA 1 binary priority none 0 v8\n",
-        "sem.ident - v0\n",
-        "sem.ident AAAA\n",
-        "sem.ident AAAA v8\n",
-        "sem.obtain v0\n",
-        "sem.obtain v8 0\n",
-        "sem.obtain v0 v1\n",
-        "sem.obtain v0 4294967296\n",
-        "sem.release\n",
-        "sem.release v8\n",
-        "sem.release v0 v1\n",
-        "sem.flush\n",
-        "sem.flush v8\n",
-        "sem.flush v0 v1\n",
-        "sem.delete\n",
-        "sem.delete v8\n",
-        "sem.delete v0 v1\n",
+        ("sem.create AAAA 1 counting fifo none 0\n", WORD),
+        ("sem.create AAAA 1 counting fifo none v0\n", WORD),
+        ("sem.create AAAA 1 counting fifo none 0 v0 v1\n", WORD),
+        ("sem.create AAAAA 1 counting fifo none 0 v0\n", WORD),
+        ("sem.create AAAA x counting fifo none 0 v0\n", NUMBER),
+        (
+            "sem.create AAAA 4294967296 counting fifo none 0 v0\n",
+            RANGE,
+        ),
+        ("sem.create AAAA 1 mutex fifo none 0 v0\n", WORD),
+        ("sem.create AAAA 1 fifo counting none 0 v0\n", WORD),
+        ("sem.create AAAA 1 Simple fifo none 0 v0\n", WORD),
+        ("sem.create AAAA 1 binary lifo none 0 v0\n", WORD),
+        ("sem.create AAAA 1 binary prio none 0 v0\n", WORD),
+        ("sem.create AAAA 1 binary priority inherit 0 v0\n", WORD),
+        ("sem.create AAAA 1 binary priority ceiling 1 v0\n", WORD),
+        ("sem.create AAAA 1 binary priority mrsp 1 v0\n", WORD),
+        ("sem.create AAAA 1 binary priority - 0 v0\n", WORD),
+        (
+            "sem.create AAAA 1 binary priority none 4294967296 v0\n",
+            RANGE,
+        ),
+        ("sem.create AAAA 1 binary priority none 0 v8\n", WORD),
+        ("sem.ident - v0\n", WORD),
+        ("sem.ident AAAA\n", WORD),
+        ("sem.ident AAAA v8\n", WORD),
+        ("sem.obtain v0\n", WORD),
+        ("sem.obtain v8 0\n", NUMBER),
+        ("sem.obtain v0 v1\n", NUMBER),
+        ("sem.obtain v0 4294967296\n", RANGE),
+        ("sem.release\n", WORD),
+        ("sem.release v8\n", NUMBER),
+        ("sem.release v0 v1\n", WORD),
+        ("sem.flush\n", WORD),
+        ("sem.flush v8\n", NUMBER),
+        ("sem.flush v0 v1\n", WORD),
+        ("sem.delete\n", WORD),
+        ("sem.delete v8\n", NUMBER),
+        ("sem.delete v0 v1\n", WORD),
     ];
-    let want = Some(ScenarioError::Refused {
-        line: 5,
-        why: NOT_YET,
-    });
-    for row in rows {
+    for (row, why) in rows {
+        let want = Some(ScenarioError::Refused { line: 5, why });
         assert_eq!(rt; refusal_of_line(rt.alloc(), row)?, want, "{row}");
     }
     Ok(())
@@ -311,7 +333,7 @@ fn counts_lines_and_bytes(rt: HostRuntime) -> Result<(), Fail> {
             why: if line == 0 {
                 ScenarioWhy::TooLarge
             } else {
-                NOT_YET
+                TOO_MANY
             },
         });
         assert_eq!(rt;
@@ -336,7 +358,7 @@ fn counts_bodies(rt: HostRuntime) -> Result<(), Fail> {
     text.push_str("body c\nend\n")?;
     let want = Some(ScenarioError::Refused {
         line: 68,
-        why: NOT_YET,
+        why: TOO_MANY,
     });
     assert_eq!(rt; refusal(alloc, text.as_bytes()), want);
     Ok(())
