@@ -38,7 +38,7 @@ pub periods_done : (k : Plain) (stats : ℕ → Stats) (index : ℕ) (had : List
 periods_done k stats index had all = rw (periods_end k stats index all) (sym (append-nil had))
 
 -- the lines by the statistics that the state after a legal history has stored are those of the history
-stored_shown : (s : Scenario) (xs : List Entry) → StatisticsAreThoseOfTheHistory → IsScenario s → Legal s xs → period_lines_from (after s xs) (stored_in (after s xs)) 1 ≡ period_lines s xs
+pub stored_shown : (s : Scenario) (xs : List Entry) → StatisticsAreThoseOfTheHistory → IsScenario s → Legal s xs → period_lines_from (after s xs) (stored_in (after s xs)) 1 ≡ period_lines s xs
 stored_shown s xs law valid legal = periods_alike (after s xs) (stored_in (after s xs)) (statistics s xs) 1 (λ index. law s xs valid legal index)
 
 -- the text of a legal history, part by part

@@ -1,1 +1,4 @@
 pub mod Stored
+pub mod Reading
+pub mod ReadingAnswers
+pub mod ScheduleLaws

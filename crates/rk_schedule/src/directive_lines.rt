@@ -59,7 +59,11 @@ fn push_place(out: &mut Vec<u8>, scenario: &Scenario, entry: &Entry) -> Result<(
 
 /// Adds which directive it is.
 #[tactic(auto, unfolding(rk_model::specs::Text::Schedules::call_text))]
-fn push_call(out: &mut Vec<u8>, scenario: &Scenario, entry: &Entry) -> Result<(), NoMemory>
+pub(crate) fn push_call(
+    out: &mut Vec<u8>,
+    scenario: &Scenario,
+    entry: &Entry,
+) -> Result<(), NoMemory>
     ensures { OnOk result (out.new.items ≡ out.old.items ++ call_text scenario.now entry.now) }
 {
     push_seat(out, entry)?;

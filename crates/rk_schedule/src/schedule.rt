@@ -55,7 +55,11 @@ fn push_entries(out: &mut Vec<u8>, parts: &mut Parts, entries: &[Entry]) -> Resu
 
 /// Adds the last line.
 #[tactic(auto, unfolding(rk_model::specs::Text::Schedules::final_line))]
-fn push_final(out: &mut Vec<u8>, scenario: &Scenario, ended: bool) -> Result<(), NoMemory>
+pub(crate) fn push_final(
+    out: &mut Vec<u8>,
+    scenario: &Scenario,
+    ended: bool,
+) -> Result<(), NoMemory>
     ensures { OnOk result (out.new.items ≡ out.old.items ++ final_line scenario.now ended) }
 {
     if ended {

@@ -1,7 +1,8 @@
 //! The lines of ticks.
 
 ghost use Rattle.std.specs.Prelude.{◌≡◌, ◌<◌, ◌++◌, OnOk};
-ghost use Rattle.rk_model.specs.Scheduling.Running.{running, cpu_count};
+ghost use Rattle.rk_model.specs.Scheduling.Running.{running};
+ghost use Rattle.rk_model.specs.Scheduling.Seats.{cpu_count};
 ghost use Rattle.rk_model.specs.Text.Schedules.{view_text, views_from, tick_line};
 
 use crate::pieces::{push_decimal, push_text};
