@@ -1,1 +1,4 @@
 pub mod PlanLemmas
+pub mod CheckLemmas
+pub mod PartLemmas
+mod CallLemmas

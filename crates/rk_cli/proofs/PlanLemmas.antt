@@ -15,7 +15,7 @@ use Rattle.rk_cli.specs.Statuses.{IsOneOf, PlansText, RefusesFault, plan_status}
 use Rattle.rk_cli.specs.Answers.{Plans, Emits, IsRun}
 use Rattle.rk_kernel.proofs.LowestHistoryLaws.{cut_lowest}
 
-appends_text : (had has : Option (List ℕ)) (a b : List ℕ) → a ≡ b → Appends had has a → Appends had has b
+pub appends_text : (had has : Option (List ℕ)) (a b : List ℕ) → a ≡ b → Appends had has a → Appends had has b
 appends_text had has a b e h = rw e at h
 
 -- ---- by what there is to say
@@ -53,10 +53,11 @@ cut_text : (before : List ℕ) (now : Option (List ℕ)) (bytes : List ℕ) (s :
 cut_text before None bytes s taken long text = taken
 cut_text before (Some now) bytes s taken long text = omega (arith, ap length taken, length-append bytes now, text.size, long)
 
-faultless : (bytes : List ℕ) (fault : Fault) (s : Scenario) → scenario_fault bytes ≡ Some fault → ScenarioText bytes s → ⊥
+-- a text has no fault
+pub faultless : (bytes : List ℕ) (fault : Fault) (s : Scenario) → scenario_fault bytes ≡ Some fault → ScenarioText bytes s → ⊥
 faultless bytes fault s e text = let none = (faultless_are_texts bytes).1 (s, text) in cc (e, none)
 
--- a text has no fault
+-- a source that had a text of a scenario gave no bytes with a fault
 unfaulted : (before : List ℕ) (now : Option (List ℕ)) (fault : Fault) (s : Scenario) → HasFault (Some before) now fault → ScenarioText before s → ⊥
 unfaulted before now fault s found text = either found.whole where
   either : IsUsedUp (Some before) now ⊎ (length found.bytes ≡ 1048577) → ⊥
@@ -112,7 +113,7 @@ faults_refused (Some before) now had has result run = λ fault found. fault_amon
 
 -- ---- where no count rises
 
-drop_faults : (status result : ℕ) (P Q : Type 0) → (P → ⊥) → (Q → ⊥) → (result ≡ 5 → P) → (result ≡ 6 → Q) → IsOneOf (status ∷ 5 ∷ 6 ∷ 3 ∷ []) result → IsOneOf (status ∷ 3 ∷ []) result
+pub drop_faults : (status result : ℕ) (P Q : Type 0) → (P → ⊥) → (Q → ⊥) → (result ≡ 5 → P) → (result ≡ 6 → Q) → IsOneOf (status ∷ 5 ∷ 6 ∷ 3 ∷ []) result → IsOneOf (status ∷ 3 ∷ []) result
 drop_faults status result P Q no_read no_write read write (inl e) = inl e
 drop_faults status result P Q no_read no_write read write (inr (inl e)) = absurd (no_read (read e))
 drop_faults status result P Q no_read no_write read write (inr (inr (inl e))) = absurd (no_write (write e))

@@ -3,3 +3,7 @@ pub mod Inputs
 pub mod Plans
 pub mod Statuses
 pub mod Answers
+pub mod Cuts
+pub mod Checks
+pub mod CheckAnswers
+pub mod Calls

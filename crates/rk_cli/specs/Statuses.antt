@@ -12,6 +12,16 @@ IsPlan text [] = ⊥
 IsPlan text (word ∷ []) = text word ≡ codes "plan"
 IsPlan text (word ∷ other ∷ words) = ⊥
 
+-- There is one word, and it is `check`.
+abbrev pub IsCheck : {W : Type 0} → (W → List ℕ) → List W → Type 0
+IsCheck text [] = ⊥
+IsCheck text (word ∷ []) = text word ≡ codes "check"
+IsCheck text (word ∷ other ∷ words) = ⊥
+
+-- The words are those of no call.
+abbrev pub IsUsage : {W : Type 0} → (W → List ℕ) → List W → Type 0
+IsUsage text words = (¬ IsPlan text words) × (¬ IsCheck text words)
+
 -- The status is one of these.
 abbrev pub IsOneOf : List ℕ → ℕ → Type 0
 IsOneOf [] result = ⊥

@@ -43,13 +43,20 @@ fn push_why(out: &mut Vec<u8>, why: ScenarioWhy) -> Result<(), NoMemory>
     match why {
         ScenarioWhy::Header => push_text(out, "Header"),
         ScenarioWhy::TooLarge => push_text(out, "TooLarge"),
-        ScenarioWhy::NotYetBuilt => push_text(out, "NotYetBuilt"),
+        ScenarioWhy::Word => push_text(out, "Word"),
+        ScenarioWhy::Number => push_text(out, "Number"),
+        ScenarioWhy::Range => push_text(out, "Range"),
+        ScenarioWhy::UnknownName => push_text(out, "UnknownName"),
+        ScenarioWhy::Repeated => push_text(out, "Repeated"),
+        ScenarioWhy::TooMany => push_text(out, "TooMany"),
+        ScenarioWhy::MissingEnd => push_text(out, "MissingEnd"),
+        ScenarioWhy::NotAscii => push_text(out, "NotAscii"),
     }
 }
 
 /// The refusal for a fault at a line.
 #[tactic(auto, unfolding(crate::specs::Texts::refusal_text))]
-fn write_refusal(alloc: Global, line: u32, why: ScenarioWhy) -> Result<Vec<u8>, NoMemory>
+pub(crate) fn write_refusal(alloc: Global, line: u32, why: ScenarioWhy) -> Result<Vec<u8>, NoMemory>
     ensures { IfOk result (λ text. text.items ≡ refusal_text (record { line = line; why = why })) }
 {
     let mut text = Vec::new(alloc);

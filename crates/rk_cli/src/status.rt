@@ -3,6 +3,12 @@
 /// The schedule was written, and its history ends with the end of the run.
 pub(crate) const PLANNED: u8 = 0;
 
+/// Nothing is wrong with the schedule.
+pub(crate) const ACCEPTED: u8 = 0;
+
+/// The schedule has a fault.
+pub(crate) const REJECTED: u8 = 7;
+
 /// The words are no call of the program.
 pub(crate) const USAGE: u8 = 1;
 

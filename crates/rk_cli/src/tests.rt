@@ -42,7 +42,7 @@ fn writes_whole_texts(rt: HostRuntime) -> Result<(), Fail> {
         (
             Some("plan"),
             "rtems 1\ncluster 9\n",
-            "scenario line 2: NotYetBuilt\n",
+            "scenario line 2: Range\n",
             2,
         ),
         (Some("frob"), SHORT, USAGE, 1),
@@ -53,6 +53,86 @@ fn writes_whole_texts(rt: HostRuntime) -> Result<(), Fail> {
         assert_eq!(rt; sink.written(), want.as_bytes());
         assert_eq!(rt; got, status);
     }
+    Ok(())
+}
+
+/// A scenario of one tick without tasks, and behind it the mark.
+const IDLE: &str = "rtems 1\ncluster 1\nticks 0\n---\n";
+
+/// Two tasks that do nothing, and behind them the mark.
+const YIELDING: &str =
+    "rtems 1\ncluster 1\nticks 0\nbody a\ntask.suspend 0x0a010002\ntask.resume 0x0a010002\nend\ninit AAAA 0 10 a\ninit BBBB 0 20 a\n---\n";
+
+/// The status of a check of a scenario and a schedule, and the bytes that the sink got.
+fn check(alloc: Global, scenario: &str, schedule: &str) -> Result<(u8, SureSink), Fail> {
+    let mut text = Vec::from_slice(alloc, scenario.as_bytes())?;
+    text.extend_from_slice(schedule.as_bytes())?;
+    run(alloc, Some("check"), text.as_slice())
+}
+
+#[test]
+fn checks_schedules(rt: HostRuntime) -> Result<(), Fail> {
+    let rows = [
+        ("schedule 1\nend 0\n", "ok\n", 0),
+        ("schedule 1\nend 0", "schedule line 2: Unfinished\n", 7),
+        ("schedule 1\nend 0\nx\n", "schedule line 3: Form\n", 7),
+        (
+            "schedule 1\ntick 1 -\nend 0\n",
+            "schedule line 2: Order\n",
+            7,
+        ),
+        ("", "schedule line 1: Unfinished\n", 7),
+        ("schedule 1\nend 0\nend 0", "schedule line 3: Order\n", 7),
+    ];
+    for (schedule, want, status) in rows {
+        let (got, sink) = check(rt.alloc(), IDLE, schedule)?;
+        assert_eq!(rt; sink.written(), want.as_bytes());
+        assert_eq!(rt; got, status);
+    }
+    Ok(())
+}
+
+#[test]
+fn tells_altered_answers(rt: HostRuntime) -> Result<(), Fail> {
+    let rows = [
+        (
+            "schedule 1\np0 t1 a:1 task.suspend done 0 0\np0 t1 a:2 task.resume done 14 0\n",
+            "schedule line 3: Status\n",
+        ),
+        (
+            "schedule 1\np0 t1 a:1 task.suspend done 0 0\np0 t1 a:2 task.suspend done 0 0\n",
+            "schedule line 3: Order\n",
+        ),
+        (
+            "schedule 1\np0 t1 a:1 task.suspend done 2 0\n",
+            "schedule line 2: Form\n",
+        ),
+        (
+            "schedule 1\np0 t1 a:1 task.suspend done 0 0\n",
+            "schedule line 3: Unfinished\n",
+        ),
+    ];
+    for (schedule, want) in rows {
+        let (got, sink) = check(rt.alloc(), YIELDING, schedule)?;
+        assert_eq!(rt; sink.written(), want.as_bytes());
+        assert_eq!(rt; got, 7);
+    }
+    Ok(())
+}
+
+#[test]
+fn refuses_scenarios_of_checks(rt: HostRuntime) -> Result<(), Fail> {
+    let (got, sink) = run(
+        rt.alloc(),
+        Some("check"),
+        b"rtems 1\ncluster 9\n---\nschedule 1\n".as_slice(),
+    )?;
+    assert_eq!(rt; sink.written(), b"scenario line 2: Range\n".as_slice());
+    assert_eq!(rt; got, 2);
+    // Without the line between them all is the scenario.
+    let (got, sink) = run(rt.alloc(), Some("check"), SHORT.as_bytes())?;
+    assert_eq!(rt; sink.written(), b"schedule line 1: Unfinished\n".as_slice());
+    assert_eq!(rt; got, 7);
     Ok(())
 }
 
