@@ -28,4 +28,5 @@ pub mod StepLemmas
 pub mod NamesLaws
 pub mod WaitLaws
 pub mod LowestHistoryLaws
+pub mod OneProcessorLaws
 pub mod CutLemmas

@@ -22,8 +22,8 @@ use Rattle.rk_model.specs.Scheduling.Priorities.{spins, urgency}
 use Rattle.rk_model.specs.Scheduling.ReadyQueues.{rank, runners}
 use Rattle.rk_model.specs.Scheduling.Running.{running, caller}
 use Rattle.rk_model.specs.Scheduling.Seats.{cpu_at}
-use Rattle.rk_model.specs.Histories.{Legal, after, ends, lowest}
-use Rattle.rk_model.specs.Text.Scenarios.{IsScenario}
+use Rattle.rk_model.specs.Histories.{Legal, after, IsDone, lowest}
+use Rattle.rk_model.specs.Text.Scenarios.{IsScenario, cpus_in}
 use Rattle.rk_kernel.specs.declared.steps.CoreStep.{CoreStep}
 use Rattle.rk_kernel.specs.declared.steps.CoreStep.TheVariants.{Did, Nothing}
 use Rattle.rk_model.specs.Statistics.{is_call, statistics}
@@ -171,7 +171,15 @@ EveryChainOfWaitsEnds = AfterEach (λ k. (t : ℕ) → HasAnEnd k t)
 
 -- The history in which always the lowest-numbered processor that has a directive acts ends with End, or has as many entries as it may have.
 abbrev pub LowestGoesOn : Type 0
-LowestGoesOn = (s : Scenario) (n : ℕ) → IsScenario s → (ends (lowest s n) ≡ true) ⊎ (length (lowest s n) ≡ n)
+LowestGoesOn = (s : Scenario) (n : ℕ) → IsScenario s → IsDone n (lowest s n)
+
+-- With one processor two legal histories of the same length are equal.
+abbrev pub HistoriesOfOneProcessorAreEqual : Type 0
+HistoriesOfOneProcessorAreEqual = (s : Scenario) (xs ys : List Entry) → IsScenario s → cpus_in s.clusters ≡ 1 → Legal s xs → Legal s ys → length xs ≡ length ys → xs ≡ ys
+
+-- With one processor a legal history that is done is the planned one.
+abbrev pub HistoriesOfOneProcessorArePlanned : Type 0
+HistoriesOfOneProcessorArePlanned = (s : Scenario) (n : ℕ) (xs : List Entry) → IsScenario s → cpus_in s.clusters ≡ 1 → Legal s xs → length xs ≤ n → IsDone n xs → xs ≡ lowest s n
 
 -- A directive never acts for a line of work or a goto: a thread that has a directive and doesn't return from one is at another line, or behind the last.
 abbrev pub NoneActsAtWork : Type 0

@@ -162,21 +162,6 @@ fn tick_in(parts: &mut Parts) -> CoreTick
     tick_quiet(&mut parts.all)
 }
 
-/// An entry of the clock.
-fn entry_of_clock(what: What) -> Entry
-    ensures { result ≡ clock_entry what }
-{
-    Entry {
-        seat: CLOCK,
-        what,
-        task: 0,
-        body: 0,
-        line: 0,
-        status: 0,
-        out: 0,
-    }
-}
-
 /// The lowest-numbered processor with a directive executes it; if none has one, the clock acts.
 fn step_least(parts: &mut Parts) -> Entry
     ensures { act parts.old (turn parts.old) ≡ Some (record { entry = result; next = parts.new }) }
@@ -184,8 +169,8 @@ fn step_least(parts: &mut Parts) -> Entry
     match least_in(parts) {
         Some(calling) => call_in(parts, calling),
         None => match tick_in(parts) {
-            CoreTick::Ticked => entry_of_clock(What::Tick),
-            CoreTick::Ended => entry_of_clock(What::End),
+            CoreTick::Ticked => Entry::of_clock(What::Tick),
+            CoreTick::Ended => Entry::of_clock(What::End),
             CoreTick::NotYet(_) => unreachable!(),
         },
     }

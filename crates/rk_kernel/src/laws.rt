@@ -1,9 +1,9 @@
 //! Laws over the definitions: the contract of each function is a law, and calling it does nothing.
 //!
-//! Each speaks of the state after any legal history of a scenario, but for the last two: one speaks
-//! of the planned history, and one of every state.
+//! Each speaks of the state after any legal history of a scenario, but for the last ones: they speak of
+//! the planned history, of histories of one processor, and of every state.
 
-ghost use Rattle.rk_kernel.specs.SchedulingLaws.{LinesHoldTheirOwn, ProcessorsHaveTheRunners, RunnersAreTheMostUrgent, NoneRunsTwice, PreemptedThreadsAreHelped, NamesAndObjectsAgree, NothingIsLeftOfDeletedTasks, NothingIsLeftOfDeletedSemaphores, NothingIsLeftOfDeletedBarriers, NothingIsLeftOfDeletedPartitions, NothingIsLeftOfDeletedPeriods, StatisticsAreThoseOfTheHistory, WaitsAndQueuesAgree, OwnersLiveAndNoneWaitsForItsOwn, EveryChainOfWaitsEnds, NoneActsAtWork, RefusalsChangeTheCallerAlone, LowestGoesOn};
+ghost use Rattle.rk_kernel.specs.SchedulingLaws.{LinesHoldTheirOwn, ProcessorsHaveTheRunners, RunnersAreTheMostUrgent, NoneRunsTwice, PreemptedThreadsAreHelped, NamesAndObjectsAgree, NothingIsLeftOfDeletedTasks, NothingIsLeftOfDeletedSemaphores, NothingIsLeftOfDeletedBarriers, NothingIsLeftOfDeletedPartitions, NothingIsLeftOfDeletedPeriods, StatisticsAreThoseOfTheHistory, WaitsAndQueuesAgree, OwnersLiveAndNoneWaitsForItsOwn, EveryChainOfWaitsEnds, NoneActsAtWork, RefusalsChangeTheCallerAlone, LowestGoesOn, HistoriesOfOneProcessorAreEqual, HistoriesOfOneProcessorArePlanned};
 ghost use Rattle.rk_kernel.specs.Cut.{SuspendNeedsItsClusterAlone};
 
 /// The ready queue of each cluster holds exactly the eligible threads of that home, each once.
@@ -104,6 +104,17 @@ pub fn refusals_change_the_caller_alone()
 /// The planned history ends with End, or has as many entries as it was cut to.
 pub fn lowest_goes_on()
     ensures { LowestGoesOn }
+{}
+
+/// Where a scenario has one processor, two of its legal histories of the same length are equal.
+pub fn histories_of_one_processor_are_equal()
+    ensures { HistoriesOfOneProcessorAreEqual }
+{}
+
+/// Where a scenario has one processor, a legal history that ends with End or has as many entries as it
+/// may have is the planned one.
+pub fn histories_of_one_processor_are_planned()
+    ensures { HistoriesOfOneProcessorArePlanned }
 {}
 
 /// `task.suspend` of a task of the caller's home needs that cluster's part alone: on it the answer is

@@ -1,8 +1,10 @@
 -- The laws of histories.
-use Rattle.std.proofs.Common.{◌≡◌, ◌≢◌, ℕ, zero, suc, ◌+◌, ◌<◌, ◌≤◌, List, [], ◌∷◌, ◌++◌, Bool, true, false, cond, eqb, ltb, Option, Some, None, is_none, length, ⊎_elim, arith, refl, sym, ap, ◌∙◌, subst}
+use Rattle.std.proofs.Common.{◌≡◌, ◌≢◌, ◌⊎◌, inl, inr, ℕ, zero, suc, ◌+◌, ◌-◌, ◌<◌, ◌≤◌, List, [], ◌∷◌, ◌++◌, Bool, true, false, cond, eqb, ltb, Option, Some, None, is_none, length, length-append, slice_get, ⊎_elim, arith, refl, sym, ap, ◌∙◌, subst}
 use Rattle.std.proofs.lemmas.Bool.{cases_lt, false≢true}
 use Rattle.std.proofs.lemmas.Bool.Decides.{nat_tests}
-use Rattle.std.proofs.lemmas.List.{get_or_past}
+use Rattle.std.proofs.lemmas.List.{append-nil, get_or_past}
+use mathlib.Core.List.{IsPrefix}
+use Rattle.rk_model.specs.declared.scenario.Scenario.{Scenario}
 use Rattle.rk_model.specs.declared.entry.Entry.{Entry}
 use Rattle.rk_model.specs.declared.entry.Reply.{Reply}
 use Rattle.rk_model.specs.declared.entry.What.TheVariants.{Tick, End}
@@ -12,7 +14,7 @@ use Rattle.rk_model.specs.Scheduling.Seats.{all_cpus, cpu_count}
 use Rattle.rk_model.specs.Scheduling.Running.{view_of, ready, caller, first_of, least_from, least}
 use Rattle.rk_model.specs.Steps.{Act, act, act_of, clock_at, clock_of, what_of, clock_entry}
 use Rattle.rk_model.specs.Scheduling.Ticks.{tick}
-use Rattle.rk_model.specs.Histories.{opening, next_of, next_by, after_from, is_end, ends, IsOf, LegalFrom, turn, lowest_on, lowest_from}
+use Rattle.rk_model.specs.Histories.{opening, next_of, next_by, after_from, is_end, ends, IsDone, IsOf, LegalFrom, Legal, turn, lowest_on, lowest_from}
 use Rattle.rk_model.specs.HistoryLaws.{LowestIsLegal, LowestIsWithin, NothingFollowsEnd, NoProcessorActsAfterEnd, QuietMeansNoDirective}
 
 -- what a seat did names the seat, and is End only where the kernel was quiet and stays as it is
@@ -118,7 +120,7 @@ no_caller_from k p zero q e low high = absurd (omega arith)
 no_caller_from k p (suc n) q e low high =
     no_caller_by k p n q (caller k p) refl e low high (no_caller_from k (p + 1) n q)
 
-past_caller : (k : Plain) (q : ℕ) → cpu_count k ≤ q → caller k q ≡ None
+pub past_caller : (k : Plain) (q : ℕ) → cpu_count k ≤ q → caller k q ≡ None
 past_caller k q h = ap (λ o. ready k (view_of k o (helped k q))) (get_or_past (all_cpus k.clusters) q None h)
 
 no_caller : (k : Plain) (q : ℕ) → least k ≡ None → caller k q ≡ None
@@ -148,6 +150,15 @@ pub ends_is : (xs : List Entry) → ends xs ≡ ends_from false xs
 ends_is [] = refl
 ends_is (x ∷ xs) = ends_behind x xs
 
+-- a history ends with End where its last entry is that
+pub ends_last : (xs : List Entry) (x : Entry) → Some x ≡ slice_get xs (length xs - 1) → is_end x.what ≡ ends xs
+ends_last [] x is = let no : ⊥ = cc in absurd no
+ends_last (y ∷ []) x is = let same : x ≡ y = cc in ap (λ (z : Entry). is_end z.what) same
+ends_last (y ∷ z ∷ zs) x is =
+    let more : suc (suc (length zs)) - 1 ≡ suc (length zs) = omega arith in
+    let one : length zs ≡ suc (length zs) - 1 = omega arith in
+    ends_last (z ∷ zs) x (is ∙ ap (slice_get (y ∷ z ∷ zs)) more ∙ ap (slice_get (z ∷ zs)) one)
+
 quiet_from : (k : Plain) (xs : List Entry) (b : Bool) → LegalFrom k xs → ends_from b xs ≡ true → (b ≡ true → (p : ℕ) → p ≢ 8 → act k p ≡ None) → (p : ℕ) → p ≢ 8 → act (after_from k xs) p ≡ None
 quiet_from k [] b legal end before = before end
 quiet_from k (x ∷ xs) b legal end before =
@@ -167,3 +178,35 @@ is_none_none (Some p) h = absurd (false≢true h)
 
 pub quiet_means : QuietMeansNoDirective
 quiet_means k = ((λ q p. no_caller k p (is_none_none (least k) q)), (λ none. ap (λ (o : Option ℕ). is_none o) (none_least k 0 (cpu_count k) none)))
+
+-- ---- a history with an entry behind it
+
+pub after_push : (k : Plain) (xs : List Entry) (x : Entry) → after_from k (xs ++ x ∷ []) ≡ next_by (after_from k xs) x
+after_push k [] x = refl
+after_push k (y ∷ xs) x = after_push (next_by k y) xs x
+
+pub legal_push : (k : Plain) (xs : List Entry) (x : Entry) → LegalFrom k xs → ends xs ≡ false → IsOf (act (after_from k xs) x.seat) x → LegalFrom k (xs ++ x ∷ [])
+legal_push k [] x legal going is = (is, (λ _. refl), tt)
+legal_push k (y ∷ []) x legal going is = (legal.0, (λ e. absurd (false≢true (sym going ∙ e))), legal_push (next_by k y) [] x tt refl is)
+legal_push k (y ∷ z ∷ zs) x legal going is = (legal.0, (λ e. let no : ⊥ = cc (legal.1 e) in absurd no), legal_push (next_by k y) (z ∷ zs) x legal.2 going is)
+
+-- ---- a history that is done
+
+-- where one list begins another that is no longer, they are the same
+pub prefix_whole : (xs ys : List Entry) → IsPrefix xs ys → length ys ≤ length xs → xs ≡ ys
+prefix_whole xs ys p long = whole p.0 p.1 (omega (arith, ap length p.1, length-append xs p.0, long)) where
+  whole : (rest : List Entry) → xs ++ rest ≡ ys → length rest ≡ 0 → xs ≡ ys
+  whole [] e n = sym (append-nil xs) ∙ e
+  whole (r ∷ rest) e n = absurd (omega (arith, n))
+
+nothing_behind : (k : Plain) (xs rest : List Entry) → LegalFrom k (xs ++ rest) → ends xs ≡ true → rest ≡ []
+nothing_behind k [] rest l h = absurd (false≢true h)
+nothing_behind k (x ∷ []) rest l h = l.1 h
+nothing_behind k (x ∷ y ∷ xs) rest l h = nothing_behind (next_by k x) (y ∷ xs) rest l.2 h
+
+-- where a done history begins a legal one within the limit, it is that one
+pub done_whole : (s : Scenario) (n : ℕ) (xs ys : List Entry) → Legal s ys → length ys ≤ n → IsPrefix xs ys → IsDone n xs → xs ≡ ys
+done_whole s n xs ys legal within p (inl e) =
+    let none = nothing_behind (opening s) xs p.0 (subst (Legal s) (sym p.1) legal) e in
+    sym (append-nil xs) ∙ (ap (λ r. xs ++ r) (sym none) ∙ p.1)
+done_whole s n xs ys legal within p (inr e) = prefix_whole xs ys p (omega (arith, within, e))
