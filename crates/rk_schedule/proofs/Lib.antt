@@ -2,7 +2,6 @@ pub mod DigitLemmas
 pub mod ViewLemmas
 pub mod EntryLemmas
 pub mod PeriodLineLemmas
-pub mod EndLemmas
 pub mod StatusLemmas
 pub mod NamedLemmas
 pub mod SplitLemmas
@@ -23,3 +22,4 @@ pub mod FormedLineLemmas
 pub mod OutNumberLemmas
 pub mod OpWithinLemmas
 pub mod FormedScheduleLemmas
+pub mod SuccessTextLemmas

@@ -1,6 +1,7 @@
 //! The lines of directives.
 
 ghost use Rattle.std.specs.Prelude.{◌≡◌, ◌++◌, OnOk, slice_get};
+ghost use Rattle.rk_model.specs.declared.entry.What.TheVariants.{Call, Return};
 ghost use Rattle.rk_model.specs.Text.Schedules.{exit_word, first_word, name_in, seat_text, place_text, call_text, reply_text, answer_text, directive_line};
 
 use crate::pieces::{push_bytes, push_decimal, push_hex, push_text};
@@ -81,6 +82,30 @@ fn push_reply(out: &mut Vec<u8>, status: u8, number: u32) -> Result<(), NoMemory
     push_hex(out, u64::from(number))
 }
 
+/// Adds the answer of a directive that was done with SUCCESSFUL, in few pieces: it is the most usual one.
+fn push_done(out: &mut Vec<u8>, number: u32) -> Result<(), NoMemory>
+    ensures { OnOk result (out.new.items ≡ out.old.items ++ answer_text Call 0 number) }
+{
+    if number == 0 {
+        push_text(out, " done 0 0")
+    } else {
+        push_text(out, " done 0 ")?;
+        push_hex(out, u64::from(number))
+    }
+}
+
+/// Adds the answer of a directive that came back with SUCCESSFUL, in few pieces.
+fn push_back(out: &mut Vec<u8>, number: u32) -> Result<(), NoMemory>
+    ensures { OnOk result (out.new.items ≡ out.old.items ++ answer_text Return 0 number) }
+{
+    if number == 0 {
+        push_text(out, " back 0 0")
+    } else {
+        push_text(out, " back 0 ")?;
+        push_hex(out, u64::from(number))
+    }
+}
+
 /// Adds what stands behind the directive's word.
 #[tactic(auto, unfolding(rk_model::specs::Text::Schedules::answer_text))]
 fn push_answer(out: &mut Vec<u8>, what: What, status: u8, number: u32) -> Result<(), NoMemory>
@@ -88,7 +113,9 @@ fn push_answer(out: &mut Vec<u8>, what: What, status: u8, number: u32) -> Result
 {
     match what {
         What::Call => {
-            if status == Status::Waits.code() {
+            if status == 0 {
+                push_done(out, number)
+            } else if status == Status::Waits.code() {
                 push_text(out, " waits")
             } else {
                 push_text(out, " done ")?;
@@ -96,8 +123,12 @@ fn push_answer(out: &mut Vec<u8>, what: What, status: u8, number: u32) -> Result
             }
         }
         What::Return => {
-            push_text(out, " back ")?;
-            push_reply(out, status, number)
+            if status == 0 {
+                push_back(out, number)
+            } else {
+                push_text(out, " back ")?;
+                push_reply(out, status, number)
+            }
         }
         What::Tick | What::End => Ok(()),
     }

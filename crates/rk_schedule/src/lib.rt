@@ -18,4 +18,4 @@ mod words;
 
 pub use errors::ScheduleError;
 pub use reading::read_schedule;
-pub use schedule::{ends_with_end, write_schedule};
+pub use schedule::write_schedule;

@@ -94,21 +94,6 @@ fn called(
     }
 }
 
-/// An entry of the clock.
-fn entry_of_clock(what: What) -> Entry
-    ensures { result ≡ clock_entry what }
-{
-    Entry {
-        seat: CLOCK,
-        what,
-        task: 0,
-        body: 0,
-        line: 0,
-        status: 0,
-        out: 0,
-    }
-}
-
 /// Whether a line is that of a tick that comes next.
 fn is_tick_line(alloc: Global, parts: &Parts, line: &[u8]) -> Result<bool, NoMemory>
     ensures { IfOk result (λ is. is ≡ bytes_eq line.now (tick_line parts.now)) }
@@ -127,7 +112,7 @@ fn ticked(alloc: Global, parts: &mut Parts, cpus: u8, line: &[u8]) -> Result<Tak
     match tick_all(parts) {
         CoreTick::Ticked => {
             if is_tick {
-                Ok(Taken::Takes(entry_of_clock(What::Tick)))
+                Ok(Taken::Takes(Entry::of_clock(What::Tick)))
             } else {
                 Ok(Taken::Stops(misplaced(alloc, cpus, line)?))
             }
@@ -143,7 +128,7 @@ fn closed(alloc: Global, parts: &mut Parts, cpus: u8, line: &[u8]) -> Result<Tak
     ensures { StepAnswers result (closed cpus line.now (act parts.old 8)) parts.new }
 {
     match tick_all(parts) {
-        CoreTick::Ended => Ok(Taken::Closes(entry_of_clock(What::End))),
+        CoreTick::Ended => Ok(Taken::Closes(Entry::of_clock(What::End))),
         CoreTick::Ticked => Ok(Taken::Stops(misplaced(alloc, cpus, line)?)),
         CoreTick::NotYet(_) => Ok(Taken::Stops(misplaced(alloc, cpus, line)?)),
     }

@@ -11,7 +11,7 @@ use crate::pieces::{push_decimal, push_text};
 use crate::tick_lines::push_tick;
 use rk_kernel::laws::statistics_are_those_of_the_history;
 use rk_kernel::{Parts, open_parts, replay};
-use rk_model::{Entry, NoMemory, Scenario, What};
+use rk_model::{Entry, NoMemory, Scenario, What, ends_with_end};
 use std::alloc::Global;
 
 /// Adds the first line.
@@ -67,23 +67,6 @@ pub(crate) fn push_final(
         push_decimal(out, u64::from(scenario.horizon))
     } else {
         push_text(out, "limit")
-    }
-}
-
-/// Whether an entry is the end of the run.
-fn is_end_entry(entry: &Entry) -> bool
-    ensures { result ≡ is_end entry.now.what }
-{
-    matches!(entry.what, What::End)
-}
-
-/// Whether a history ends with the end of the run.
-pub fn ends_with_end(entries: &[Entry]) -> bool
-    ensures { result ≡ ends entries.now }
-{
-    match entries.last() {
-        None => false,
-        Some(entry) => is_end_entry(entry),
     }
 }
 
