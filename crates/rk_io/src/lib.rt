@@ -1,6 +1,7 @@
 //! Sources and sinks of bytes. Each counts its faults, and a call fails only where that count rose.
 #![tactic(auto)]
 
+mod gate;
 mod memory;
 mod sink;
 mod source;
@@ -9,6 +10,7 @@ mod sure;
 #[cfg(test)]
 mod tests;
 
+pub use gate::{Gate, OpenGate};
 pub use memory::{MemSink, MemSource};
 pub use sink::{Sink, WriteError, write_all};
 pub use source::{Failed, Input, ReadError, Source, read_all};

@@ -1,0 +1,9 @@
+pub mod LogLemmas
+pub mod KnownKeyLemmas
+pub mod JournalRuleLemmas
+pub mod MarkTokenLemmas
+pub mod MarkRegisterLemmas
+pub mod RenewedMarkLemmas
+pub mod HeldKeyLemmas
+pub mod FirstMarkLemmas
+pub mod JournalAnswerLemmas

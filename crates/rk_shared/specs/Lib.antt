@@ -1,0 +1,5 @@
+pub mod KeyedLogs
+pub mod SeatViews
+pub mod SeatSteps
+pub mod Keeps
+pub mod Openings
