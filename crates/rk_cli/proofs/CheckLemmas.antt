@@ -1,20 +1,20 @@
 -- What checking comes to, by what it has to say.
-use Rattle.std.proofs.Common.{◌≡◌, ◌⊎◌, inl, inr, ℕ, ◌+◌, ◌≤◌, List, [], ◌∷◌, Option, Some, None, length, arith, refl, sym, ap, ◌∙◌, subst, length-append}
+use Rattle.std.proofs.Common.{◌≡◌, ◌⊎◌, inl, inr, ℕ, ◌+◌, ◌≤◌, List, [], ◌∷◌, Option, Some, None, length, arith, sym, ap, ◌∙◌, subst, length-append}
 use Rattle.rk_io.specs.Causes.{Rose}
-use Rattle.rk_io.specs.Bytes.{Consumes, IsUsedUp, Appends}
+use Rattle.rk_io.specs.Bytes.{Consumes, IsUsedUp}
 use Rattle.rk_io.proofs.InputLemmas.{used_up_had}
 use Rattle.rk_model.specs.declared.scenario.Scenario.{Scenario}
 use Rattle.rk_model.specs.declared.scenario.ScenarioWhy.TheVariants.{TooLarge}
 use Rattle.rk_model.specs.Text.Scenarios.{ScenarioText, IsScenario}
 use Rattle.rk_model.specs.Text.Reading.{Fault, scenario_fault}
-use Rattle.rk_model.specs.Text.ScheduleFaults.{ScheduleFault, IsSchedule, IsFaultOf, ScheduleFaultIs}
+use Rattle.rk_model.specs.Text.ScheduleFaults.{ScheduleFault, ScheduleFaultIs}
 use Rattle.rk_scenario.proofs.TextLemmas.{one_scenario}
 use Rattle.rk_schedule.proofs.ReadingLemmas.{answered_once}
 use Rattle.rk_cli.specs.Cuts.{parted}
-use Rattle.rk_cli.specs.Checks.{HasBoth, HasNoScenario, HasCheck, HasScheduleRefusal, HasScenarioRefusal, HasCheckPart, check_status, ChecksSchedule, RefusesParted}
+use Rattle.rk_cli.specs.Checks.{HasBoth, HasNoScenario, HasCheckPart, check_status, ChecksSchedule, RefusesParted}
 use Rattle.rk_cli.specs.Statuses.{IsOneOf}
 use Rattle.rk_cli.specs.Answers.{Emits}
-use Rattle.rk_cli.specs.CheckAnswers.{Rejects, IsCheckRun}
+use Rattle.rk_cli.specs.CheckAnswers.{Rejects, SaysOfCheck}
 use Rattle.rk_cli.proofs.PlanLemmas.{appends_text, faultless, drop_faults}
 
 -- what a source had that was read to its end
@@ -46,7 +46,7 @@ same_answer before now s t schedule one other h text mine its =
     let only = (answered_once s (parted before).schedule (known before s text)).2 in
     only one mine ∙ sym (only other there)
 
-schedule_among : (before : List ℕ) (now had has : Option (List ℕ)) (result : ℕ) → IsCheckRun (Some before) now had has result → length before ≤ 104857600 → (s : Scenario) → ScenarioText (parted before).scenario s
+schedule_among : (before : List ℕ) (now had has : Option (List ℕ)) (result : ℕ) → SaysOfCheck (Some before) now had has result → length before ≤ 104857600 → (s : Scenario) → ScenarioText (parted before).scenario s
     → (fault : Option ScheduleFault) → ScheduleFaultIs s (parted before).schedule fault → IsOneOf (0 ∷ 2 ∷ 3 ∷ 5 ∷ 6 ∷ 7 ∷ []) result → IsOneOf (check_status fault ∷ 5 ∷ 6 ∷ 3 ∷ []) result
 schedule_among before now had has result run few s text fault is (inl e) =
     let a = run.accepted e in
@@ -63,7 +63,7 @@ schedule_among before now had has result run few s text fault is (inr (inr (inr 
 schedule_among before now had has result run few s text fault is (inr (inr (inr (inr (inr (inr none)))))) = absurd none
 
 -- a source that had a scenario's text and a schedule gets the status of that
-pub schedules_checked : (before now had has : Option (List ℕ)) (result : ℕ) → IsCheckRun before now had has result → ChecksSchedule before (5 ∷ 6 ∷ 3 ∷ []) result
+pub schedules_checked : (before now had has : Option (List ℕ)) (result : ℕ) → SaysOfCheck before now had has result → ChecksSchedule before (5 ∷ 6 ∷ 3 ∷ []) result
 schedules_checked None now had has result run = tt
 schedules_checked (Some before) now had has result run = λ few s text fault is. schedule_among before now had has result run few s text fault is run.kind
 
@@ -72,7 +72,7 @@ not_both : (before : List ℕ) (now : Option (List ℕ)) (s : Scenario) (schedul
 not_both before now s schedule h (inl large) = omega (arith, large, (had_both before now s schedule h).2)
 not_both before now s schedule h (inr found) = faultless (parted before).scenario found.0 s found.1 (had_both before now s schedule h).0
 
-refusal_among : (before : List ℕ) (now had has : Option (List ℕ)) (result : ℕ) → IsCheckRun (Some before) now had has result → (104857600 + 1 ≤ length before) ⊎ ((fault : Fault) × (scenario_fault (parted before).scenario ≡ Some fault))
+refusal_among : (before : List ℕ) (now had has : Option (List ℕ)) (result : ℕ) → SaysOfCheck (Some before) now had has result → (104857600 + 1 ≤ length before) ⊎ ((fault : Fault) × (scenario_fault (parted before).scenario ≡ Some fault))
     → IsOneOf (0 ∷ 2 ∷ 3 ∷ 5 ∷ 6 ∷ 7 ∷ []) result → IsOneOf (2 ∷ 5 ∷ 6 ∷ 3 ∷ []) result
 refusal_among before now had has result run bad (inl e) = let a = run.accepted e in absurd (not_both before now a.scenario a.schedule a.input bad)
 refusal_among before now had has result run bad (inr (inl e)) = inl e
@@ -82,7 +82,7 @@ refusal_among before now had has result run bad (inr (inr (inr (inr (inl e))))) 
 refusal_among before now had has result run bad (inr (inr (inr (inr (inr (inl e)))))) = let r = run.rejected e in absurd (not_both before now r.scenario r.schedule r.input bad)
 refusal_among before now had has result run bad (inr (inr (inr (inr (inr (inr none)))))) = absurd none
 
-pub refusals_checked : (before now had has : Option (List ℕ)) (result : ℕ) → IsCheckRun before now had has result → RefusesParted before (5 ∷ 6 ∷ 3 ∷ []) result
+pub refusals_checked : (before now had has : Option (List ℕ)) (result : ℕ) → SaysOfCheck before now had has result → RefusesParted before (5 ∷ 6 ∷ 3 ∷ []) result
 refusals_checked None now had has result run = tt
 refusals_checked (Some before) now had has result run = λ bad. refusal_among before now had has result run bad run.kind
 
@@ -99,8 +99,8 @@ refusals_completed (Some before) result f g m n refuses read write no_read no_wr
 -- ---- by what there is to say
 
 -- the refusal of a schedule was to be written
-pub run_rejected : (before now had has : Option (List ℕ)) (f g : ℕ) (text : List ℕ) (result : ℕ) → Rejects before now text → Emits had has f g text 7 result → IsCheckRun before now had has result
-run_rejected before now had has f g text result rejects emits =
+pub says_rejected : (before now had has : Option (List ℕ)) (f g : ℕ) (text : List ℕ) (result : ℕ) → Rejects before now text → Emits had has f g text 7 result → SaysOfCheck before now had has result
+says_rejected before now had has f g text result rejects emits =
     let part : HasCheckPart before now had has = record { text = text; reply = inr (inl (rejects.scenario, rejects.schedule, rejects.fault, rejects.input, rejects.is, rejects.text_is)); written = emits.part } in
     record {
       kind = grind (arith, emits.kind);

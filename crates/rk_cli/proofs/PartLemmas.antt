@@ -1,9 +1,9 @@
 -- The parts of an input, as the code finds them.
-use Rattle.std.proofs.Common.{◌≡◌, ◌≢◌, ℕ, ◌+◌, ◌-◌, ◌<◌, ◌≤◌, List, [], ◌∷◌, ◌++◌, Bool, true, false, cond, ◌==◌, length, take, drop, get_or, min, arith, refl, sym, ap, ◌∙◌, append_assoc}
+use Rattle.std.proofs.Common.{◌≡◌, ◌≢◌, ℕ, ◌+◌, ◌-◌, ◌<◌, ◌≤◌, List, [], ◌∷◌, ◌++◌, true, false, ◌==◌, length, take, drop, get_or, arith, refl, sym, ap, ◌∙◌}
 use Rattle.std.proofs.lemmas.Bool.Decides.{nat_tests}
 use Rattle.std.proofs.lemmas.List.{take_more, drop_more, get_or-drop, take-append-drop, length-take, length-drop}
 use Rattle.std.proofs.Math.Seq.{take-append-add}
-use Rattle.rk_cli.specs.Cuts.{Parted, is_mark, parted_from, parted}
+use Rattle.rk_cli.specs.Cuts.{is_mark, parted_from, parted}
 
 -- the first bytes, and some behind them
 take_both : (m n : ℕ) (xs : List ℕ) → m ≤ length xs → take m xs ++ take n (drop m xs) ≡ take (m + n) xs

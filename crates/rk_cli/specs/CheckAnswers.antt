@@ -41,8 +41,8 @@ IsChecked before now f g (Refused text) = RefusesScenario before now text.items
 IsChecked before now f g ReadFault = Rose f g
 IsChecked before now f g NoMemory = Unit {0}
 
--- What checking answers, and what it comes to.
-pub record IsCheckRun (before now had has : Option (List ℕ)) (result : ℕ) : Type 0 where
+-- What each status of `check` says.
+pub record SaysOfCheck (before now had has : Option (List ℕ)) (result : ℕ) : Type 0 where
   pub kind : IsOneOf (0 ∷ 2 ∷ 3 ∷ 5 ∷ 6 ∷ 7 ∷ []) result
   pub accepted : result ≡ 0 → HasCheck before now had has
   pub refused : result ≡ 2 → HasScenarioRefusal before now had has

@@ -1,5 +1,5 @@
 -- What checking comes to: before and now are the bytes that a source has left, and had and has the bytes that a sink has taken, where they tell them.
-use Rattle.std.specs.Prelude.{ℕ, ◌≡◌, ◌≤◌, ◌+◌, ◌⊎◌, List, [], ◌∷◌, Option, Some, None, length}
+use Rattle.std.specs.Prelude.{ℕ, ◌≡◌, ◌≤◌, ◌+◌, ◌⊎◌, List, ◌∷◌, Option, Some, None, length}
 use Rattle.rk_io.specs.Bytes.{Consumes, IsUsedUp, Appends, AppendsPrefix}
 use Rattle.rk_model.specs.declared.limits.TheConstants.{MOST_CHECKED}
 use Rattle.rk_model.specs.declared.scenario.Scenario.{Scenario}

@@ -10,7 +10,6 @@ use Rattle.rk_model.specs.Text.ScheduleFaults.{ScheduleFault}
 use Rattle.rk_model.specs.declared.entry.Entry.{Entry}
 use Rattle.rk_model.specs.Text.Reading.{Fault}
 use Rattle.rk_model.specs.Histories.{lowest}
-use Rattle.rk_model.specs.Text.Schedules.{schedule_text}
 
 -- how the program is called
 unfoldable pub usage_text : List ℕ
@@ -51,7 +50,3 @@ schedule_refusal_text fault = codes "schedule line " ++ decimal fault.line ++ co
 -- the history of a scenario that is planned: always the lowest-numbered processor that has a directive acts, else the clock, up to End or to the scenario's limit
 abbrev pub planned : Scenario → List Entry
 planned s = lowest s s.limit
-
--- the schedule of the planned history
-abbrev pub plan_text : Scenario → List ℕ
-plan_text s = schedule_text s (planned s)

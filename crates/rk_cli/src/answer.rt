@@ -1,26 +1,31 @@
-//! What planning has to say about a source.
+//! What a command that writes a schedule has to say about a source.
 
-ghost use Rattle.std.specs.Prelude.{◌≡◌, ◌≤◌, ◌++◌, OnOk, IfOk};
+ghost use Rattle.std.specs.Prelude.{◌≡◌, ◌≤◌, ◌++◌, OnOk, IfOk, IfErr};
 ghost use Rattle.rk_io.specs.Bytes.{ConsumesPrefix};
-ghost use Rattle.rk_model.specs.Histories.{ends};
+ghost use Rattle.rk_model.specs.Histories.{Legal};
 ghost use Rattle.rk_model.specs.Text.Scenarios.{IsScenario};
-ghost use Rattle.rk_cli.specs.Texts.{why_text, refusal_text, planned, plan_text};
-ghost use Rattle.rk_cli.specs.Answers.{IsAnswer};
+ghost use Rattle.rk_cli.specs.Texts.{why_text, refusal_text};
+ghost use Rattle.rk_cli.specs.Inputs.{HasScenario};
+ghost use Rattle.rk_cli.specs.Plans.{IsPlanned, IsTaken};
+ghost use Rattle.rk_cli.specs.Answers.{IsOfHistory, IsAnswer, IsFailure};
 
-use rk_io::{ReadError, Source, read_all};
+use crate::workers::run_scenario;
+use rk_io::{Gate, ReadError, Source, read_all};
 use rk_kernel::run_lowest;
 use rk_model::limits::MOST_BYTES;
-use rk_model::{NoMemory, Scenario, ScenarioWhy};
+use rk_model::{Entry, NoMemory, Scenario, ScenarioWhy, ends_with_end};
 use rk_scenario::{ScenarioError, read_scenario};
 use rk_schedule::pieces::{push_decimal, push_text};
-use rk_schedule::{ends_with_end, write_schedule};
+use rk_schedule::write_schedule;
 use std::alloc::Global;
+use std::sync::Wait;
+use std::thread::Threads;
 
-/// What planning has to say.
+/// What there is to say.
 #[derive(Debug, Drop)]
 pub(crate) enum Answer {
     /// The schedule of a history that ends with the end of the run.
-    Planned(Vec<u8>),
+    Finished(Vec<u8>),
 
     /// The schedule of a history that was cut at the scenario's limit.
     Limited(Vec<u8>),
@@ -68,46 +73,80 @@ pub(crate) fn write_refusal(alloc: Global, line: u32, why: ScenarioWhy) -> Resul
     Ok(text)
 }
 
-/// The schedule of the planned history, and whether that ends with the end of the run.
-#[tactic(auto, using(rk_model::proofs::LegalityLemmas::lowest_legal))]
-fn write_plan(alloc: Global, scenario: &Scenario) -> Result<(Vec<u8>, bool), NoMemory>
-    requires { IsScenario scenario.now }
-    ensures text { IfOk result (λ x. x.0.items ≡ plan_text scenario.now) }
-    ensures end { IfOk result (λ x. x.1 ≡ ends (planned scenario.now)) }
+/// The schedule of a history, by how it ends.
+fn history_answer(alloc: Global, scenario: &Scenario, history: &[Entry]) -> Answer
+    requires known { IsScenario scenario.now }
+    requires legal { Legal scenario.now history.now }
+    ensures { IsOfHistory scenario.now history.now result }
 {
-    let history = run_lowest(alloc, scenario)?;
-    let text = write_schedule(alloc, scenario, history.entries())?;
-    let ended = ends_with_end(history.entries());
-    Ok((text, ended))
+    let Ok(text) = write_schedule(alloc, scenario, history) else {
+        return Answer::NoMemory;
+    };
+    if ends_with_end(history) {
+        Answer::Finished(text)
+    } else {
+        Answer::Limited(text)
+    }
 }
 
-/// What planning has to say about a source.
-pub(crate) fn plan_answer<S: Source>(alloc: Global, source: &mut S) -> Answer
-    ensures answer { IsAnswer (S.left source.old) (S.left source.new)
-        (S.faults source.old) (S.faults source.new) result }
+/// The scenario that is read from a source, or what there is to say where none is.
+fn read_source<S: Source>(alloc: Global, source: &mut S) -> Result<Scenario, Answer>
+    ensures read { IfOk result (HasScenario (S.left source.old) (S.left source.new)) }
+    ensures known { IfOk result IsScenario }
+    ensures fails { IfErr result (IsFailure (S.left source.old) (S.left source.new)
+        (S.faults source.old) (S.faults source.new)) }
     ensures taken { ConsumesPrefix (S.left source.old) (S.left source.new) }
     ensures later { S.faults source.old ≤ S.faults source.new }
 {
     let input = match read_all(alloc, source, MOST_BYTES as u64) {
         Ok(input) => input,
-        Err(ReadError::Failed) => return Answer::ReadFault,
-        Err(ReadError::Memory) => return Answer::NoMemory,
+        Err(ReadError::Failed) => return Err(Answer::ReadFault),
+        Err(ReadError::Memory) => return Err(Answer::NoMemory),
     };
     match read_scenario(alloc, input.bytes.as_slice()) {
-        Ok(scenario) => match write_plan(alloc, &scenario) {
-            Ok((text, ended)) => {
-                if ended {
-                    Answer::Planned(text)
-                } else {
-                    Answer::Limited(text)
-                }
-            }
-            Err(NoMemory) => Answer::NoMemory,
-        },
+        Ok(scenario) => Ok(scenario),
         Err(ScenarioError::Refused { line, why }) => match write_refusal(alloc, line, why) {
-            Ok(text) => Answer::Refused(text),
+            Ok(text) => Err(Answer::Refused(text)),
+            Err(NoMemory) => Err(Answer::NoMemory),
+        },
+        Err(ScenarioError::Memory) => Err(Answer::NoMemory),
+    }
+}
+
+/// What planning has to say about a source.
+#[tactic(auto, using(rk_model::proofs::LegalityLemmas::lowest_legal))]
+pub(crate) fn plan_answer<S: Source>(alloc: Global, source: &mut S) -> Answer
+    ensures answer { IsAnswer IsPlanned (S.left source.old) (S.left source.new)
+        (S.faults source.old) (S.faults source.new) result }
+    ensures taken { ConsumesPrefix (S.left source.old) (S.left source.new) }
+    ensures later { S.faults source.old ≤ S.faults source.new }
+{
+    match read_source(alloc, source) {
+        Ok(scenario) => match run_lowest(alloc, &scenario) {
+            Ok(history) => history_answer(alloc, &scenario, history.entries()),
             Err(NoMemory) => Answer::NoMemory,
         },
-        Err(ScenarioError::Memory) => Answer::NoMemory,
+        Err(answer) => answer,
+    }
+}
+
+/// What a run by threads has to say about a source.
+pub(crate) fn run_answer<S: Source, G: Gate + Send + Drop, R: Threads + Wait + Sync>(
+    rt: &R,
+    alloc: Global,
+    source: &mut S,
+    gate: G,
+) -> Answer
+    ensures answer { IsAnswer IsTaken (S.left source.old) (S.left source.new)
+        (S.faults source.old) (S.faults source.new) result }
+    ensures taken { ConsumesPrefix (S.left source.old) (S.left source.new) }
+    ensures later { S.faults source.old ≤ S.faults source.new }
+{
+    match read_source(alloc, source) {
+        Ok(scenario) => match run_scenario(rt, alloc, &scenario, gate) {
+            Ok(history) => history_answer(alloc, &scenario, history.entries()),
+            Err(NoMemory) => Answer::NoMemory,
+        },
+        Err(answer) => answer,
     }
 }

@@ -1,7 +1,7 @@
 //! The statuses with which the program ends.
 
 /// The schedule was written, and its history ends with the end of the run.
-pub(crate) const PLANNED: u8 = 0;
+pub(crate) const FINISHED: u8 = 0;
 
 /// Nothing is wrong with the schedule.
 pub(crate) const ACCEPTED: u8 = 0;
@@ -9,7 +9,7 @@ pub(crate) const ACCEPTED: u8 = 0;
 /// The schedule has a fault.
 pub(crate) const REJECTED: u8 = 7;
 
-/// The words are no call of the program.
+/// The words are those of no command.
 pub(crate) const USAGE: u8 = 1;
 
 /// The text that was read is no scenario's.

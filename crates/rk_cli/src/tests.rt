@@ -1,9 +1,11 @@
-use crate::plain_top;
-use rk_io::{MemSink, MemSource, SureSink, SureSource};
+use crate::{plain_top, top};
+use rk_io::{MemSink, MemSource, OpenGate, SureSink, SureSource};
 use rk_scenario::read_scenario;
 use rk_schedule::write_schedule;
 use std::alloc::Global;
+use std::sync::Wait;
 use std::test::Fail;
+use std::thread::Threads;
 
 const SHORT: &str = "rtems 1\ncluster 1\nticks 0\n";
 
@@ -46,10 +48,55 @@ fn writes_whole_texts(rt: HostRuntime) -> Result<(), Fail> {
             2,
         ),
         (Some("frob"), SHORT, USAGE, 1),
+        (Some("run"), SHORT, USAGE, 1),
         (None, SHORT, USAGE, 1),
     ];
     for (word, text, want, status) in rows {
         let (got, sink) = run(rt.alloc(), word, text.as_bytes())?;
+        assert_eq!(rt; sink.written(), want.as_bytes());
+        assert_eq!(rt; got, status);
+    }
+    Ok(())
+}
+
+/// The status of a call that may start threads, and the bytes that the sink got.
+fn run_by_threads<R: Threads + Wait + Sync>(
+    rt: &R,
+    alloc: Global,
+    word: &str,
+    text: &str,
+) -> Result<(u8, SureSink), Fail> {
+    let words = vec![in alloc; String::from_str(alloc, word)?]?;
+    let mut source = SureSource::new(Vec::from_slice(alloc, text.as_bytes())?);
+    let mut sink = SureSink::new(alloc);
+    let status = top(
+        rt,
+        alloc,
+        words.as_slice(),
+        &mut source,
+        &mut sink,
+        OpenGate,
+    );
+    Ok((status, sink))
+}
+
+#[test]
+fn runs_by_threads(rt: HostRuntime) -> Result<(), Fail> {
+    let rows = [
+        ("run", SHORT, "schedule 1\nend 0\n", 0),
+        ("run", ONE_TASK, ONE_TASK_SCHEDULE, 0),
+        (
+            "run",
+            "rtems 1\ncluster 1\nticks 1\nlimit 1\n",
+            "schedule 1\ntick 1 -\nlimit\n",
+            4,
+        ),
+        ("run", "", "scenario line 1: Header\n", 2),
+        ("plan", ONE_TASK, ONE_TASK_SCHEDULE, 0),
+        ("frob", SHORT, USAGE, 1),
+    ];
+    for (word, text, want, status) in rows {
+        let (got, sink) = run_by_threads(&rt, rt.alloc(), word, text)?;
         assert_eq!(rt; sink.written(), want.as_bytes());
         assert_eq!(rt; got, status);
     }

@@ -3,8 +3,8 @@
 
 ghost use Rattle.std.specs.Prelude.{◌≡◌, [], Ok, IfOk, IfErr};
 
-use rk_cli::plain_top;
-use rk_io::{StdSink, StdSource};
+use rk_cli::top;
+use rk_io::{OpenGate, StdSink, StdSource};
 use std::alloc::Global;
 use std::io::ErrorKind;
 use std::process::ExitCode;
@@ -47,6 +47,13 @@ fn main(rt: HostRuntime) -> ExitCode {
     };
     let mut source = StdSource::new(rt.stdin());
     let mut sink = StdSink::new(rt.stdout());
-    let status = plain_top(rt.alloc(), words.as_slice(), &mut source, &mut sink);
+    let status = top(
+        &rt,
+        rt.alloc(),
+        words.as_slice(),
+        &mut source,
+        &mut sink,
+        OpenGate,
+    );
     ExitCode::from(status)
 }

@@ -1,4 +1,4 @@
-use Rattle.std.proofs.Common.{◌≤◌, ◌<◌, ◌+◌, length, arith, sym, ◌∙◌}
+use Rattle.std.proofs.Common.{◌≤◌, ◌<◌, length, arith, sym, ◌∙◌}
 use Rattle.rk_cli.proofs.PartLemmas.{part_byte, part_feed}
 use Rattle.rk_cli.proofs.checking.part.Goals.{then-byte-eq10+else-is_mark, else-byte-eq10}
 use Rattle.rk_cli.proofs.checking.part.Goals as goal
