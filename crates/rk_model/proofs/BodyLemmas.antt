@@ -1,10 +1,10 @@
 -- What stands at the lines of bodies, and where their gotos lead.
-use Rattle.std.proofs.Common.{◌≡◌, ℕ, zero, suc, ◌≤◌, List, [], ◌∷◌, Option, None, Some, length, arith, subst}
+use Rattle.std.proofs.Common.{◌≡◌, ℕ, zero, suc, ◌≤◌, List, [], ◌∷◌, Option, None, Some, IfSome, length, arith, subst}
 use Rattle.std.specs.List.{slice_get, AllByRecursion}
 use Rattle.rk_model.specs.declared.scenario.Body.{Body}
 use Rattle.rk_model.specs.declared.scenario.Op.{Op}
 use Rattle.rk_model.specs.declared.scenario.Op.TheVariants.{Goto}
-use Rattle.rk_model.specs.Limits.{GoesOn, GoesOnBy, AreRunnable}
+use Rattle.rk_model.specs.Limits.{GoesOn, GoesOnBy, IsNear, AreRunnable}
 use Rattle.rk_model.specs.Directives.Lines.{kind_at}
 use Rattle.rk_model.specs.State.{op_in}
 use Rattle.rk_model.proofs.LimitLemmas.{target_within}
@@ -28,6 +28,21 @@ goes_from (body ∷ bodies) (suc b) line all = goes_from bodies b line all.1
 -- a thread goes on from what stands at a line of a body
 pub goes_in : (bodies : List Body) (b line : ℕ) → AreRunnable bodies → GoesOnBy (lines_in (slice_get bodies b)) (kind_at (op_in (slice_get bodies b) line))
 goes_in bodies b line runs = goes_from bodies b line runs.ops
+
+near_at : (ops : List Op) (i : ℕ) → AllByRecursion IsNear ops → IfSome (slice_get ops i) IsNear
+near_at [] i all = tt
+near_at (op ∷ ops) zero all = all.0
+near_at (op ∷ ops) (suc i) all = near_at ops i all.1
+
+near_from : (bodies : List Body) (b line : ℕ) → AllByRecursion (λ (body : Body). AllByRecursion IsNear body.lines) bodies → IfSome (op_in (slice_get bodies b) line) IsNear
+near_from [] b line all = tt
+near_from (body ∷ bodies) zero zero all = tt
+near_from (body ∷ bodies) zero (suc i) all = near_at body.lines i all.0
+near_from (body ∷ bodies) (suc b) line all = near_from bodies b line all.1
+
+-- the cluster that a line of a body names is one that there may be
+pub near_in : (bodies : List Body) (b line : ℕ) → AreRunnable bodies → IfSome (op_in (slice_get bodies b) line) IsNear
+near_in bodies b line runs = near_from bodies b line runs.near
 
 few_from : (bodies : List Body) (b : ℕ) → AllByRecursion (λ (body : Body). length body.lines ≤ 1000) bodies → length (lines_in (slice_get bodies b)) ≤ 1000
 few_from [] b short = omega arith

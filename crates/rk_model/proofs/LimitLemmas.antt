@@ -3,14 +3,15 @@ use Rattle.std.proofs.Common.{◌≡◌, ℕ, zero, suc, ◌+◌, ◌*◌, ◌<�
 use Rattle.std.specs.List.{AllByRecursion}
 use Rattle.std.proofs.lemmas.Bool.{false≢true}
 use Rattle.rk_model.specs.declared.scenario.Op.{Op}
-use Rattle.rk_model.specs.declared.scenario.Op.TheVariants.{Work, Goto}
+use Rattle.rk_model.specs.declared.scenario.Op.TheVariants.{Work, Goto, TaskGetPriority, SemSetPriority}
+use Rattle.rk_model.specs.declared.scenario.Target.{Target}
 use Rattle.rk_model.specs.declared.scenario.Body.{Body}
 use Rattle.rk_model.specs.declared.scenario.Init.{Init}
 use Rattle.rk_model.specs.declared.scenario.Scenario.{Scenario}
 use Rattle.rk_model.specs.Text.Scenarios.{IsScenario, Known, with_earlier, Spell, IsOp, AreOps, AreBodies, AreInits, IsLimit, may_be_target, is_target}
 use Rattle.rk_model.specs.Text.Words.{name_of, is_name_byte}
-use Rattle.rk_model.specs.Text.Forms.{Number, Earlier}
-use Rattle.rk_model.specs.Limits.{GoesOn, IsWithinLimits}
+use Rattle.rk_model.specs.Text.Forms.{Number, Any, Id, Var, Cluster, Earlier}
+use Rattle.rk_model.specs.Limits.{GoesOn, IsNear, IsWithinLimits}
 
 short_bodies : (clusters : ℕ) (front : List Body) (statements : List (List (List ℕ))) (bodies : List Body) → AreBodies clusters front statements bodies → AllByRecursion (λ (body : Body). length body.lines ≤ 1000) bodies
 short_bodies clusters front statements [] are = tt
@@ -67,11 +68,43 @@ ops_of clusters front statements [] are = tt
 ops_of clusters front statements (body ∷ bodies) are =
     (go_on_from body.lines (record { clusters = clusters; bodies = front; own = body.name; earlier = [] }) are.3.inner body.lines refl are.3.ops, ops_of clusters (front ++ body ∷ []) are.1 bodies are.4)
 
+-- the cluster that a line names is one of the scenario
+asks_near : (known : Known) (words : List (List ℕ)) (id : Target) (cluster var : ℕ) → Spell known (Id ∷ Cluster ∷ Var ∷ []) TaskGetPriority words (TaskGetPriority id cluster var) → cluster < known.clusters
+asks_near known [] id cluster var is = absurd is
+asks_near known (a ∷ []) id cluster var is = absurd is.2
+asks_near known (a ∷ b ∷ []) id cluster var is = absurd is.2.2
+asks_near known (a ∷ b ∷ c ∷ []) id cluster var is = let same : is.2.0 ≡ cluster = cc (is.2.2.2) in subst (λ (n : ℕ). n < known.clusters) same is.2.1.there
+asks_near known (a ∷ b ∷ c ∷ d ∷ words) id cluster var is = absurd is.2.2.2
+
+sets_near : (known : Known) (words : List (List ℕ)) (id : Target) (cluster prio var : ℕ) → Spell known (Id ∷ Cluster ∷ Any ∷ Var ∷ []) SemSetPriority words (SemSetPriority id cluster prio var) → cluster < known.clusters
+sets_near known [] id cluster prio var is = absurd is
+sets_near known (a ∷ []) id cluster prio var is = absurd is.2
+sets_near known (a ∷ b ∷ []) id cluster prio var is = absurd is.2.2
+sets_near known (a ∷ b ∷ c ∷ []) id cluster prio var is = absurd is.2.2.2
+sets_near known (a ∷ b ∷ c ∷ d ∷ []) id cluster prio var is = let same : is.2.0 ≡ cluster = cc (is.2.2.2.2) in subst (λ (n : ℕ). n < known.clusters) same is.2.1.there
+sets_near known (a ∷ b ∷ c ∷ d ∷ e ∷ words) id cluster prio var is = absurd is.2.2.2.2
+
+is_near : (known : Known) (words : List (List ℕ)) (op : Op) → known.clusters ≤ 4 → IsOp known words op → IsNear op
+is_near known words (TaskGetPriority id cluster var) few is = omega (arith, few, asks_near known is.0 id cluster var is.2)
+is_near known words (SemSetPriority id cluster prio var) few is = omega (arith, few, sets_near known is.0 id cluster prio var is.2)
+is_near known words _ few is = tt
+
+near_lines : (known : Known) (statements : List (List (List ℕ))) (ops : List Op) → known.clusters ≤ 4 → AreOps known statements ops → AllByRecursion IsNear ops
+near_lines known [] [] few are = tt
+near_lines known [] (op ∷ ops) few are = absurd are
+near_lines known (words ∷ statements) [] few are = absurd are
+near_lines known (words ∷ statements) (op ∷ ops) few are = (is_near known words op few are.0, near_lines (with_earlier known op) statements ops few are.1)
+
+near_bodies : (clusters : ℕ) (front : List Body) (statements : List (List (List ℕ))) (bodies : List Body) → clusters ≤ 4 → AreBodies clusters front statements bodies → AllByRecursion (λ (body : Body). AllByRecursion IsNear body.lines) bodies
+near_bodies clusters front statements [] few are = tt
+near_bodies clusters front statements (body ∷ bodies) few are =
+    (near_lines (record { clusters = clusters; bodies = front; own = body.name; earlier = [] }) are.3.inner body.lines few are.3.ops, near_bodies clusters (front ++ body ∷ []) are.1 bodies few are.4)
+
 near_homes : (s : Scenario) (statements : List (List (List ℕ))) (inits : List Init) → AreInits s statements inits → AllByRecursion (λ (init : Init). init.cluster < length s.clusters) inits
 near_homes s [] [] are = tt
 near_homes s [] (init ∷ inits) are = absurd are
 near_homes s (words ∷ statements) [] are = absurd are
-near_homes s (words ∷ statements) (init ∷ inits) are = (are.0.cluster_below, near_homes s statements inits are.1)
+near_homes s (words ∷ statements) (init ∷ inits) are = (are.0.cluster_is.there, near_homes s statements inits are.1)
 
 -- a byte of a name isn't 0
 some_byte : (b : ℕ) → is_name_byte b ≡ true → 1 ≤ b
@@ -122,7 +155,7 @@ limits_of s is =
       some_limit = limit.0;
       limit = limit.1;
       few_bodies = lines.few_bodies;
-      bodies = record { short = short_bodies (length s.clusters) [] lines.bodies s.bodies lines.bodies_are; ops = ops_of (length s.clusters) [] lines.bodies s.bodies lines.bodies_are };
+      bodies = record { short = short_bodies (length s.clusters) [] lines.bodies s.bodies lines.bodies_are; ops = ops_of (length s.clusters) [] lines.bodies s.bodies lines.bodies_are; near = near_bodies (length s.clusters) [] lines.bodies s.bodies lines.few_clusters lines.bodies_are };
       few_inits = lines.few_inits;
       homes = near_homes s lines.inits s.inits lines.inits_are;
       names = some_names s lines.inits s.inits lines.inits_are;

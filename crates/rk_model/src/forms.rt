@@ -3,7 +3,7 @@ ghost use Rattle.rk_model.specs.Text.Forms.{word_of, form_from, form_in};
 
 use crate::numbers::Name;
 use crate::scenario::{Op, Target, Wish};
-use crate::semaphore::{Protocol, SemKind, SemSpec};
+use crate::semaphore::{Protocol, SemKind};
 use crate::waiting::Order;
 
 /// A line of each form. What its operands are is of no account.
@@ -16,19 +16,18 @@ pub const FORMS: &[Op] = &[
     Op::TaskSuspend(Target::Own),
     Op::TaskResume(Target::Own),
     Op::TaskSetPriority(Target::Own, 0, 0),
+    Op::TaskGetPriority(Target::Own, 0, 0),
     Op::TaskDelete(Target::Own),
     Op::TaskWakeAfter(0),
     Op::EventSend(Target::Own, 0),
     Op::EventReceive(0, false, Wish::NoWait, 0),
     Op::SemCreate(
         Name { bits: 0 },
-        SemSpec {
-            count: 0,
-            kind: SemKind::Counting,
-            order: Order::Fifo,
-            protocol: Protocol::NoProtocol,
-            ceiling: 0,
-        },
+        0,
+        SemKind::Counting,
+        Order::Fifo,
+        Protocol::NoProtocol,
+        0,
         0,
     ),
     Op::SemIdent(Name { bits: 0 }, 0),
@@ -36,6 +35,7 @@ pub const FORMS: &[Op] = &[
     Op::SemRelease(Target::Own),
     Op::SemFlush(Target::Own),
     Op::SemDelete(Target::Own),
+    Op::SemSetPriority(Target::Own, 0, 0, 0),
     Op::BarrierCreate(Name { bits: 0 }, false, 0, 0),
     Op::BarrierIdent(Name { bits: 0 }, 0),
     Op::BarrierWait(Target::Own, 0),
@@ -67,16 +67,18 @@ impl Op {
             Op::TaskSuspend(_) => "task.suspend",
             Op::TaskResume(_) => "task.resume",
             Op::TaskSetPriority(_, _, _) => "task.set_priority",
+            Op::TaskGetPriority(_, _, _) => "task.get_priority",
             Op::TaskDelete(_) => "task.delete",
             Op::TaskWakeAfter(_) => "task.wake_after",
             Op::EventSend(_, _) => "event.send",
             Op::EventReceive(_, _, _, _) => "event.receive",
-            Op::SemCreate(_, _, _) => "sem.create",
+            Op::SemCreate(_, _, _, _, _, _, _) => "sem.create",
             Op::SemIdent(_, _) => "sem.ident",
             Op::SemObtain(_, _) => "sem.obtain",
             Op::SemRelease(_) => "sem.release",
             Op::SemFlush(_) => "sem.flush",
             Op::SemDelete(_) => "sem.delete",
+            Op::SemSetPriority(_, _, _, _) => "sem.set_priority",
             Op::BarrierCreate(_, _, _, _) => "barrier.create",
             Op::BarrierIdent(_, _) => "barrier.ident",
             Op::BarrierWait(_, _) => "barrier.wait",

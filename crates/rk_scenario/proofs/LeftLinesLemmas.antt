@@ -114,7 +114,6 @@ IsInit-kept b inits words init h = record {
   words_are = h.words_are;
   name_is = h.name_is;
   cluster_is = h.cluster_is;
-  cluster_below = h.cluster_below;
   priority_is = h.priority_is;
   body_is = h.body_is;
 }

@@ -10,7 +10,7 @@ use Rattle.rk_model.specs.Text.Forms.{Operand, Value, Makes, Form, Row, form_of,
 use Rattle.rk_model.specs.Text.Words.{var_of, semaphore_kind_of, order_of, protocol_of}
 use Rattle.rk_model.specs.Text.Scenarios.{Known, IsSpelled, Spell, IsOfForm, IsOp, body_known}
 use Rattle.rk_model.specs.Text.Reading.{var_operand, start_operand, semaphore_kind_operand, order_operand, protocol_operand, operand_of, fits, made_of, form_line, line_like, op_line, is_end}
-use Rattle.rk_scenario.proofs.SpellingLemmas.{bind_ok, then_ok, ok_is, text_is, number_ok, number_is, known_ok, known_is, body_told_ok, body_told_is, id_ok, id_is, address_ok, address_is, goto_ok, goto_is, name_ok, name_is, name0_ok, name0_is, either_ok, either_is, wish_ok, wish_is}
+use Rattle.rk_scenario.proofs.SpellingLemmas.{bind_ok, then_ok, ok_is, text_is, number_ok, number_is, cluster_ok, cluster_is, known_ok, known_is, body_told_ok, body_told_is, id_ok, id_is, address_ok, address_is, goto_ok, goto_is, name_ok, name_is, name0_ok, name0_is, either_ok, either_is, wish_ok, wish_is}
 
 -- ---- operands
 
@@ -23,6 +23,7 @@ operand_ok known Operand.Name0 word name e = name0_ok word name e
 operand_ok known Operand.Var word var e = known_ok (var_of word) var e
 operand_ok known Operand.Id word id e = id_ok word id e
 operand_ok known Operand.Address word address e = address_ok word address e
+operand_ok known Operand.Cluster word c e = cluster_ok known.clusters word c e
 operand_ok known Operand.B word body e = body_told_ok word (body_known known.bodies known.own word) body e
 operand_ok known Operand.Earlier word n e = goto_ok known.earlier word n e
 operand_ok known Operand.Mode word all e = either_ok (codes "any") (codes "all") word all e
@@ -41,6 +42,7 @@ operand_is known Operand.Name0 word name h = name0_is word name h
 operand_is known Operand.Var word var h = known_is (var_of word) var h
 operand_is known Operand.Id word id h = id_is word id h
 operand_is known Operand.Address word address h = address_is word address h
+operand_is known Operand.Cluster word c h = cluster_is known.clusters word c h
 operand_is known Operand.B word body h = body_told_is word (body_known known.bodies known.own word) body h
 operand_is known Operand.Earlier word n h = goto_is known.earlier word n h
 operand_is known Operand.Mode word all h = either_is (codes "any") (codes "all") word all refl h

@@ -15,7 +15,7 @@ use Rattle.rk_model.specs.Text.Words.{number_of, name_of, name0_of, var_of, is_b
 use Rattle.rk_model.specs.Text.Forms.{Operand}
 use Rattle.rk_model.specs.Text.Scenarios.{IsEither, is_named, body_from, body_of, body_known, is_target}
 use Rattle.rk_model.specs.Text.Reading.{◌>>=◌, Draft, known_at, within, below, given_value, body_told, named, led, id_by, number_operand, cluster_operand, var_operand, given_operand, fixed_operand, id_operand, address_operand, goto_operand, name_operand, name0_operand, body_operand, start_operand, either_operand, wish_operand, semaphore_kind_operand, order_operand, protocol_operand, operand_of}
-use Rattle.rk_scenario.specs.Reasons.{Slot, Of, Cluster, NewBody, WholeBody, IsFit, IsMisspelled, takes_numbers, ReplacesNumber, IsInRange, IsUnknownName, IsRepeatedName, IsUnfit}
+use Rattle.rk_scenario.specs.Reasons.{Slot, Of, NewBody, WholeBody, IsFit, IsMisspelled, takes_numbers, ReplacesNumber, IsInRange, IsUnknownName, IsRepeatedName, IsUnfit}
 use Rattle.rk_scenario.proofs.SpellingLemmas.{text_is, text_same, cluster_ok, cluster_is, name_ok, name_is, number_ok, number_is, number_no_var, number_differs, self_no_number, nowait_no_number, body_ok, body_is}
 use Rattle.rk_scenario.proofs.OperandLemmas.{operand_ok, operand_is}
 
@@ -63,9 +63,9 @@ spells : (slot : Slot) (word : List ℕ) → takes_numbers slot ≡ true → IsM
 spells (Of (Operand.Number least most)) word is wrong = wrong
 spells (Of Operand.Id) word is wrong = wrong
 spells (Of Operand.Address) word is wrong = wrong
+spells (Of Operand.Cluster) word is wrong = wrong
 spells (Of Operand.Earlier) word is wrong = wrong
 spells (Of Operand.Wish) word is wrong = wrong
-spells Cluster word is wrong = wrong
 spells _ word is wrong = false≢true is
 
 knows : (d : Draft) (slot : Slot) (word : List ℕ) → takes_numbers slot ≡ true → IsUnknownName d slot word → ⊥
@@ -151,7 +151,7 @@ range_holds d least most = record {
 earlier_holds : (d : Draft) → Takes d (Of Operand.Earlier) (λ n. is_target d.body.lines n)
 earlier_holds d = record { numbers = refl; inside = λ n h. h; back = λ n h. h }
 
-cluster_holds : (d : Draft) → Takes d Cluster (λ n. nat_lt n (length d.scenario.clusters))
+cluster_holds : (d : Draft) → Takes d (Of Operand.Cluster) (λ n. nat_lt n (length d.scenario.clusters))
 cluster_holds d = record { numbers = refl; inside = λ n h. lt-ltb n (length d.scenario.clusters) h; back = λ n h. ltb-true n (length d.scenario.clusters) h }
 
 -- any number of 32 bits
@@ -193,16 +193,16 @@ number_judges d least most word = record {
   refused = λ why wrong. number_refused d (Of (Operand.Number least most)) word least most (range_holds d least most) why wrong;
 }
 
-pub cluster_judges : (d : Draft) (word : List ℕ) → Judges (cluster_operand (length d.scenario.clusters) word) (IsFit d Cluster word) (IsUnfit d Cluster word)
+pub cluster_judges : (d : Draft) (word : List ℕ) → Judges (cluster_operand (length d.scenario.clusters) word) (IsFit d (Of Operand.Cluster) word) (IsUnfit d (Of Operand.Cluster) word)
 unfolding cluster_operand
 cluster_judges d word =
     let count : ℕ = length d.scenario.clusters in
     let test : ℕ → Bool = λ n. nat_lt n count in
     record {
-      fit = λ n e. let c = cluster_ok count word n e in (n, c.0, c.1);
-      taken = λ h. (h.0, cluster_is count word h.0 h.1 h.2);
-      told = λ why e. ranged_told d Cluster word test (number_of word) (cluster_holds d) (λ other. other) refl why (sym (below_is count (number_of word)) ∙ e);
-      refused = λ why wrong. below_is count (number_of word) ∙ ranged_refused d Cluster word test (cluster_holds d) why wrong;
+      fit = λ n e. (n, cluster_ok count word n e);
+      taken = λ h. (h.0, cluster_is count word h.0 h.1);
+      told = λ why e. ranged_told d (Of Operand.Cluster) word test (number_of word) (cluster_holds d) (λ other. other) refl why (sym (below_is count (number_of word)) ∙ e);
+      refused = λ why wrong. below_is count (number_of word) ∙ ranged_refused d (Of Operand.Cluster) word test (cluster_holds d) why wrong;
     }
 
 -- ---- what may stand in place of a number
@@ -456,6 +456,7 @@ operand_told d Operand.Name0 word why e = let n = named_told (name0_of word) why
 operand_told d Operand.Var word why e = let n = value_told (var_of word) why e in subst (λ w. IsUnfit d (Of Operand.Var) word w) n.0 n.1
 operand_told d Operand.Id word why e = id_told d word why e
 operand_told d Operand.Address word why e = address_told d word why e
+operand_told d Operand.Cluster word why e = (cluster_judges d word).told why e
 operand_told d Operand.B word why e = start_told d word why e
 operand_told d Operand.Earlier word why e = goto_told d word why e
 operand_told d Operand.Mode word why e = let n = either_told (codes "any") (codes "all") word why e in subst (λ w. IsUnfit d (Of Operand.Mode) word w) n.0 n.1
@@ -473,6 +474,7 @@ operand_refused d Operand.Name0 word called own why wrong = word_only d (Of Oper
 operand_refused d Operand.Var word called own why wrong = word_only d (Of Operand.Var) word (var_operand word) refl (λ h. h) (λ h. h) (λ none. ap given_value none) why wrong
 operand_refused d Operand.Id word called own why wrong = id_refused d word why wrong
 operand_refused d Operand.Address word called own why wrong = address_refused d word why wrong
+operand_refused d Operand.Cluster word called own why wrong = (cluster_judges d word).refused why wrong
 operand_refused d Operand.B word called own why wrong = start_refused d word called own why wrong
 operand_refused d Operand.Earlier word called own why wrong = goto_refused d word why wrong
 operand_refused d Operand.Mode word called own why wrong =

@@ -16,7 +16,7 @@ use Rattle.rk_model.specs.declared.scenario.Scenario.{Scenario}
 use Rattle.rk_model.specs.declared.scenario.ScenarioWhy.{ScenarioWhy}
 use Rattle.rk_model.specs.declared.scenario.ScenarioWhy.TheVariants.{Word, Range, UnknownName}
 use Rattle.rk_model.specs.Text.Words.{number_of, decimal_of, name_of, name0_of, var_of, is_body_name}
-use Rattle.rk_model.specs.Text.Scenarios.{IsNumber, IsId, IsAddress, IsEither, IsWish, IsInit, IsEarlier, body_of, is_target}
+use Rattle.rk_model.specs.Text.Scenarios.{IsNumber, IsClusterNumber, IsId, IsAddress, IsEither, IsWish, IsInit, IsEarlier, body_of, is_target}
 use Rattle.rk_model.specs.Text.Reading.{◌>>=◌, within, below, given_value, body_told, named, led, id_by, number_operand, cluster_operand, given_operand, fixed_operand, id_operand, address_operand, goto_operand, name_operand, name0_operand, body_operand, either_operand, wish_operand, init_operands}
 
 -- ---- steps that are taken
@@ -80,13 +80,13 @@ below_ok count (Some m) n e =
     let lt : m < count = ltb-true m count t.0 in
     (ap (λ (k : ℕ). Some k) same, omega arith)
 
-pub cluster_ok : (count : ℕ) (word : List ℕ) (n : ℕ) → cluster_operand count word ≡ Ok n → (number_of word ≡ Some n) × (n < count)
+pub cluster_ok : (count : ℕ) (word : List ℕ) (n : ℕ) → cluster_operand count word ≡ Ok n → IsClusterNumber count word n
 unfolding cluster_operand
-cluster_ok count word n e = below_ok count (number_of word) n e
+cluster_ok count word n e = let b = below_ok count (number_of word) n e in record { value = b.0; there = b.1 }
 
-pub cluster_is : (count : ℕ) (word : List ℕ) (n : ℕ) → number_of word ≡ Some n → n < count → cluster_operand count word ≡ Ok n
+pub cluster_is : (count : ℕ) (word : List ℕ) (n : ℕ) → IsClusterNumber count word n → cluster_operand count word ≡ Ok n
 unfolding cluster_operand
-cluster_is count word n e lt = let test = lt-ltb n count lt in rw (e, test) refl
+cluster_is count word n h = let test = lt-ltb n count h.there in rw (h.value, test) refl
 
 -- a word that spells a number isn't one that spells none
 pub number_differs : (other word : List ℕ) (bits : ℕ) → number_of other ≡ None → number_of word ≡ Some bits → bytes_eq word other ≡ false
@@ -274,7 +274,6 @@ init_ok s (name ∷ cluster ∷ priority ∷ body ∷ []) init e =
     let c = bind_ok (cluster_operand (length s.clusters) cluster) (λ c. number_operand 1 255 priority >>= (λ p. body_operand s.bodies body >>= (λ b. Ok (made n.0 c p b)))) init n.2 in
     let p = bind_ok (number_operand 1 255 priority) (λ p. body_operand s.bodies body >>= (λ b. Ok (made n.0 c.0 p b))) init c.2 in
     let b = bind_ok (body_operand s.bodies body) (λ b. Ok (made n.0 c.0 p.0 b)) init p.2 in
-    let home = cluster_ok (length s.clusters) cluster c.0 c.1 in
     subst (λ (i : Init). IsInit s (codes "init" ∷ name ∷ cluster ∷ priority ∷ body ∷ []) i) {x = made n.0 c.0 p.0 b.0} (ok_is (made n.0 c.0 p.0 b.0) init b.2) (record {
       name = name;
       cluster = cluster;
@@ -282,8 +281,7 @@ init_ok s (name ∷ cluster ∷ priority ∷ body ∷ []) init e =
       body = body;
       words_are = refl;
       name_is = name_ok name n.0 n.1;
-      cluster_is = home.0;
-      cluster_below = home.1;
+      cluster_is = cluster_ok (length s.clusters) cluster c.0 c.1;
       priority_is = number_ok 1 255 priority p.0 p.1;
       body_is = body_ok s.bodies body b.0 b.1;
     })
@@ -295,5 +293,5 @@ unfolding init_operands
 init_is s words init h = (
   h.name ∷ h.cluster ∷ h.priority ∷ h.body ∷ [],
   h.words_are,
-  rw (name_is h.name init.name h.name_is, cluster_is (length s.clusters) h.cluster init.cluster h.cluster_is h.cluster_below, number_is 1 255 h.priority init.prio h.priority_is, body_is s.bodies h.body init.body h.body_is) refl,
+  rw (name_is h.name init.name h.name_is, cluster_is (length s.clusters) h.cluster init.cluster h.cluster_is, number_is 1 255 h.priority init.prio h.priority_is, body_is s.bodies h.body init.body h.body_is) refl,
 )

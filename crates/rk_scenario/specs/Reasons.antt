@@ -19,8 +19,6 @@ use Rattle.rk_model.specs.Text.Reading.{Phase, Start, Headed, Clustered, Timed, 
 pub data Slot : Type 0 where
   -- what an operand of a line of a body may stand for
   Of : Operand → Slot
-  -- the number of a cluster
-  Cluster : Slot
   -- the name of a body that begins
   NewBody : Slot
   -- the name of a body that has ended
@@ -65,7 +63,7 @@ slots_of LimitLine = Of (Operand.Number 1 MOST_ENTRIES) ∷ []
 slots_of BodyLine = NewBody ∷ []
 slots_of (OpLine op) = map Of (operands_in (form_of op))
 slots_of EndLine = []
-slots_of InitLine = Of Operand.Name ∷ Cluster ∷ Of (Operand.Number 1 LEAST_URGENT) ∷ WholeBody ∷ []
+slots_of InitLine = Of Operand.Name ∷ Of Operand.Cluster ∷ Of (Operand.Number 1 LEAST_URGENT) ∷ WholeBody ∷ []
 
 -- the kind among these of a line with this first word
 abbrev pub kind_among : List LineKind → List ℕ → Option LineKind
@@ -87,7 +85,6 @@ kind_at InInits first = kind_among (InitLine ∷ []) first
 -- The word is right in the slot, in a line behind those of this draft.
 abbrev pub IsFit : Draft → Slot → List ℕ → Type 0
 IsFit d (Of operand) word = (value : Value operand) × IsSpelled (known_at d.scenario d.body) operand word value
-IsFit d Cluster word = (n : ℕ) × (number_of word ≡ Some n) × (n < length d.scenario.clusters)
 IsFit d NewBody word = (is_body_name word ≡ true) × (body_of d.scenario.bodies word ≡ None)
 IsFit d WholeBody word = (body : ℕ) × (body_of d.scenario.bodies word ≡ Some body)
 
@@ -120,9 +117,9 @@ abbrev pub takes_numbers : Slot → Bool
 takes_numbers (Of (Operand.Number least most)) = true
 takes_numbers (Of Operand.Id) = true
 takes_numbers (Of Operand.Address) = true
+takes_numbers (Of Operand.Cluster) = true
 takes_numbers (Of Operand.Earlier) = true
 takes_numbers (Of Operand.Wish) = true
-takes_numbers Cluster = true
 takes_numbers _ = false
 
 -- The slot takes the word in place of a number: for an ID a variable or `self`, for an address a variable, for how long to wait `nowait`.
@@ -138,14 +135,14 @@ pub record IsNoNumber (slot : Slot) (word : List ℕ) : Type 0 where
   pub none : number_of word ≡ None
   pub other : ReplacesNumber slot word → ⊥
 
--- The number is one of those that the slot takes: from the least to the most; of 32 bits; that of an earlier line of the body that isn't a goto; that of a cluster.
+-- The number is one of those that the slot takes: from the least to the most; of 32 bits; that of a cluster; that of an earlier line of the body that isn't a goto.
 abbrev pub IsInRange : Draft → Slot → ℕ → Type 0
 IsInRange d (Of (Operand.Number least most)) n = (least ≤ n) × (n ≤ most)
 IsInRange d (Of Operand.Id) n = n ≤ 4294967295
 IsInRange d (Of Operand.Address) n = n ≤ 4294967295
+IsInRange d (Of Operand.Cluster) n = n < length d.scenario.clusters
 IsInRange d (Of Operand.Earlier) n = is_target d.body.lines n ≡ true
 IsInRange d (Of Operand.Wish) n = n ≤ 4294967295
-IsInRange d Cluster n = n < length d.scenario.clusters
 IsInRange d _ n = ⊥
 
 -- The slot takes numbers, and the word spells one that it doesn't take.

@@ -235,13 +235,17 @@ pub(crate) fn order_operand(word: &[u8]) -> Result<Order, ScenarioWhy>
     }
 }
 
-/// The protocol of a semaphore: `none`. The others aren't built yet.
+/// The protocol of a semaphore: `none`, `inherit` or `ceiling`. `mrsp` isn't built yet.
 #[tactic(auto, unfolding(rk_model::specs::Text::Reading::protocol_operand))]
 pub(crate) fn protocol_operand(word: &[u8]) -> Result<Protocol, ScenarioWhy>
     ensures { result ≡ protocol_operand word.now }
 {
     if word == b"none".as_slice() {
         Ok(Protocol::NoProtocol)
+    } else if word == b"inherit".as_slice() {
+        Ok(Protocol::Inherit)
+    } else if word == b"ceiling".as_slice() {
+        Ok(Protocol::Ceiling)
     } else {
         Err(ScenarioWhy::Word)
     }

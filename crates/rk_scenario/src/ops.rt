@@ -1,21 +1,22 @@
 ghost use Rattle.std.specs.Prelude.{◌≡◌, ◌<◌, ◌≤◌, ◌∷◌, [], length};
-ghost use Rattle.rk_model.specs.declared.limits.TheConstants.{MOST_LINES};
+ghost use Rattle.rk_model.specs.declared.limits.TheConstants.{MOST_CLUSTERS, MOST_LINES};
 ghost use Rattle.rk_model.specs.Text.Forms.{form_of};
 ghost use Rattle.rk_model.specs.Text.Reading.{known_at, op_line, line_like, form_line};
 
 use crate::operands::{
-    address_operand, any_operand, goto_operand, id_operand, kind_operand, mode_operand,
-    name_operand, name0_operand, number_operand, order_operand, protocol_operand,
+    address_operand, any_operand, cluster_operand, goto_operand, id_operand, kind_operand,
+    mode_operand, name_operand, name0_operand, number_operand, order_operand, protocol_operand,
     semaphore_kind_operand, start_operand, var_operand, wish_operand,
 };
 use rk_model::limits::MOST_TICKS;
 use rk_model::words::Word;
-use rk_model::{Body, Op, Scenario, ScenarioWhy, SemSpec};
+use rk_model::{Body, Op, Scenario, ScenarioWhy};
 
 /// What a line of an open body stands for behind the lines that this has so far, by its words.
 /// `scenario` is what has been read of the scenario, with the bodies in front of the open one.
 #[tactic(auto, unfolding(rk_model::specs::Text::Reading::op_line))]
 pub(crate) fn read_op(scenario: &Scenario, body: &Body, words: &[Word]) -> Result<Op, ScenarioWhy>
+    requires clusters { length scenario.now.clusters ≤ MOST_CLUSTERS }
     requires bodies { length scenario.now.bodies ≤ 255 }
     requires lines { length body.now.lines ≤ MOST_LINES }
     ensures { result ≡ op_line (known_at scenario.now body.now) words.now }
@@ -37,6 +38,7 @@ fn read_form(
     form: Op,
     operands: &[Word],
 ) -> Result<Op, ScenarioWhy>
+    requires clusters { length scenario.now.clusters ≤ MOST_CLUSTERS }
     requires bodies { length scenario.now.bodies ≤ 255 }
     requires lines { length body.now.lines ≤ MOST_LINES }
     ensures { result ≡ form_line (known_at scenario.now body.now) (form_of form) operands.now }
@@ -66,6 +68,7 @@ fn read_long_form(
     form: Op,
     operands: &[Word],
 ) -> Result<Op, ScenarioWhy>
+    requires clusters { length scenario.now.clusters ≤ MOST_CLUSTERS }
     requires bodies { length scenario.now.bodies ≤ 255 }
     requires lines { length body.now.lines ≤ MOST_LINES }
     requires many { 3 < length operands.now }
@@ -110,6 +113,7 @@ fn read_long_form(
 /// What a line of the form of this one with one operand stands for.
 #[tactic(auto, unfolding(rk_model::specs::Text::Reading::form_line, rk_model::specs::Text::Reading::operand_of))]
 fn read_one(scenario: &Scenario, body: &Body, form: Op, a: &[u8]) -> Result<Op, ScenarioWhy>
+    requires clusters { length scenario.now.clusters ≤ MOST_CLUSTERS }
     requires bodies { length scenario.now.bodies ≤ 255 }
     requires lines { length body.now.lines ≤ MOST_LINES }
     ensures { result ≡ form_line (known_at scenario.now body.now) (form_of form) (a.now ∷ []) }
@@ -141,6 +145,7 @@ fn read_two(
     a: &[u8],
     b: &[u8],
 ) -> Result<Op, ScenarioWhy>
+    requires clusters { length scenario.now.clusters ≤ MOST_CLUSTERS }
     requires bodies { length scenario.now.bodies ≤ 255 }
     requires lines { length body.now.lines ≤ MOST_LINES }
     ensures { result ≡ form_line (known_at scenario.now body.now) (form_of form) (a.now ∷ b.now ∷ []) }
@@ -174,6 +179,7 @@ fn read_three(
     b: &[u8],
     c: &[u8],
 ) -> Result<Op, ScenarioWhy>
+    requires clusters { length scenario.now.clusters ≤ MOST_CLUSTERS }
     requires bodies { length scenario.now.bodies ≤ 255 }
     requires lines { length body.now.lines ≤ MOST_LINES }
     ensures { result ≡ form_line (known_at scenario.now body.now) (form_of form) (a.now ∷ b.now ∷ c.now ∷ []) }
@@ -187,6 +193,11 @@ fn read_three(
         Op::TaskSetPriority(_, _, _) => Ok(Op::TaskSetPriority(
             id_operand(a)?,
             any_operand(b)?,
+            var_operand(c)?,
+        )),
+        Op::TaskGetPriority(_, _, _) => Ok(Op::TaskGetPriority(
+            id_operand(a)?,
+            cluster_operand(scenario.clusters.len(), b)?,
             var_operand(c)?,
         )),
         _ => Err(ScenarioWhy::Word),
@@ -204,6 +215,7 @@ fn read_four(
     c: &[u8],
     d: &[u8],
 ) -> Result<Op, ScenarioWhy>
+    requires clusters { length scenario.now.clusters ≤ MOST_CLUSTERS }
     requires bodies { length scenario.now.bodies ≤ 255 }
     requires lines { length body.now.lines ≤ MOST_LINES }
     ensures { result ≡ form_line (known_at scenario.now body.now) (form_of form) (a.now ∷ b.now ∷ c.now ∷ d.now ∷ []) }
@@ -213,6 +225,12 @@ fn read_four(
             any_operand(a)?,
             mode_operand(b)?,
             wish_operand(c)?,
+            var_operand(d)?,
+        )),
+        Op::SemSetPriority(_, _, _, _) => Ok(Op::SemSetPriority(
+            id_operand(a)?,
+            cluster_operand(scenario.clusters.len(), b)?,
+            any_operand(c)?,
             var_operand(d)?,
         )),
         Op::BarrierCreate(_, _, _, _) => Ok(Op::BarrierCreate(
@@ -237,6 +255,7 @@ fn read_five(
     d: &[u8],
     e: &[u8],
 ) -> Result<Op, ScenarioWhy>
+    requires clusters { length scenario.now.clusters ≤ MOST_CLUSTERS }
     requires bodies { length scenario.now.bodies ≤ 255 }
     requires lines { length body.now.lines ≤ MOST_LINES }
     ensures { result ≡ form_line (known_at scenario.now body.now) (form_of form) (a.now ∷ b.now ∷ c.now ∷ d.now ∷ e.now ∷ []) }
@@ -267,20 +286,19 @@ fn read_seven(
     f: &[u8],
     g: &[u8],
 ) -> Result<Op, ScenarioWhy>
+    requires clusters { length scenario.now.clusters ≤ MOST_CLUSTERS }
     requires bodies { length scenario.now.bodies ≤ 255 }
     requires lines { length body.now.lines ≤ MOST_LINES }
     ensures { result ≡ form_line (known_at scenario.now body.now) (form_of form) (a.now ∷ b.now ∷ c.now ∷ d.now ∷ e.now ∷ f.now ∷ g.now ∷ []) }
 {
     match form {
-        Op::SemCreate(_, _, _) => Ok(Op::SemCreate(
+        Op::SemCreate(_, _, _, _, _, _, _) => Ok(Op::SemCreate(
             name0_operand(a)?,
-            SemSpec {
-                count: any_operand(b)?,
-                kind: semaphore_kind_operand(c)?,
-                order: order_operand(d)?,
-                protocol: protocol_operand(e)?,
-                ceiling: any_operand(f)?,
-            },
+            any_operand(b)?,
+            semaphore_kind_operand(c)?,
+            order_operand(d)?,
+            protocol_operand(e)?,
+            any_operand(f)?,
             var_operand(g)?,
         )),
         _ => Err(ScenarioWhy::Word),

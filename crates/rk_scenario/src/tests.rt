@@ -1,8 +1,6 @@
 use crate::ScenarioError;
 use crate::read::read_scenario;
-use rk_model::{
-    Init, Name, Op, Order, Prio, Protocol, ScenarioWhy, SemKind, SemSpec, Target, Wish,
-};
+use rk_model::{Init, Name, Op, Order, Prio, Protocol, ScenarioWhy, SemKind, Target, Wish};
 use std::alloc::Global;
 use std::test::Fail;
 
@@ -50,17 +48,6 @@ fn repeated(alloc: Global, head: &str, line: &str, count: u32, tail: &str) -> Re
     }
     text.push_str(tail)?;
     Ok(text)
-}
-
-/// What a semaphore without a protocol is made with.
-fn unraised(count: u32, kind: SemKind, order: Order, ceiling: u32) -> SemSpec {
-    SemSpec {
-        count,
-        kind,
-        order,
-        protocol: Protocol::NoProtocol,
-        ceiling,
-    }
 }
 
 #[test]
@@ -280,8 +267,8 @@ fn refuses_lines_of_semaphores(rt: HostRuntime) -> Result<(), Fail> {
         ("sem.create AAAA 1 Simple fifo none 0 v0\n", WORD),
         ("sem.create AAAA 1 binary lifo none 0 v0\n", WORD),
         ("sem.create AAAA 1 binary prio none 0 v0\n", WORD),
-        ("sem.create AAAA 1 binary priority inherit 0 v0\n", WORD),
-        ("sem.create AAAA 1 binary priority ceiling 1 v0\n", WORD),
+        ("sem.create AAAA 1 binary priority Inherit 0 v0\n", WORD),
+        ("sem.create AAAA 1 binary priority ceilings 1 v0\n", WORD),
         ("sem.create AAAA 1 binary priority mrsp 1 v0\n", WORD),
         ("sem.create AAAA 1 binary priority - 0 v0\n", WORD),
         (
@@ -305,6 +292,35 @@ fn refuses_lines_of_semaphores(rt: HostRuntime) -> Result<(), Fail> {
         ("sem.delete\n", WORD),
         ("sem.delete v8\n", NUMBER),
         ("sem.delete v0 v1\n", WORD),
+    ];
+    for (row, why) in rows {
+        let want = Some(ScenarioError::Refused { line: 5, why });
+        assert_eq!(rt; refusal_of_line(rt.alloc(), row)?, want, "{row}");
+    }
+    Ok(())
+}
+
+#[test]
+fn refuses_lines_with_clusters(rt: HostRuntime) -> Result<(), Fail> {
+    let rows = [
+        ("task.get_priority self 0\n", WORD),
+        ("task.get_priority self 0 v0 v1\n", WORD),
+        ("task.get_priority v8 0 v0\n", NUMBER),
+        ("task.get_priority self v0 v0\n", NUMBER),
+        ("task.get_priority self 00 v8\n", NUMBER),
+        ("task.get_priority 4294967296 x v8\n", RANGE),
+        ("task.get_priority self 1 v0\n", RANGE),
+        ("task.get_priority self 256 v8\n", RANGE),
+        ("task.get_priority self 4294967296 v0\n", RANGE),
+        ("task.get_priority self 0 v8\n", WORD),
+        ("sem.set_priority v0 0 1\n", WORD),
+        ("sem.set_priority v0 0 1 v0 v1\n", WORD),
+        ("sem.set_priority v8 0 1 v0\n", NUMBER),
+        ("sem.set_priority v0 - x v0\n", NUMBER),
+        ("sem.set_priority v0 1 x v0\n", RANGE),
+        ("sem.set_priority v0 0 v1 v0\n", NUMBER),
+        ("sem.set_priority v0 0 4294967296 v0\n", RANGE),
+        ("sem.set_priority v0 0 1 v8\n", WORD),
     ];
     for (row, why) in rows {
         let want = Some(ScenarioError::Refused { line: 5, why });
@@ -388,6 +404,10 @@ fn reads_lines_of_bodies(rt: HostRuntime) -> Result<(), Fail> {
             "task.set_priority v3 0 v1\n",
             Op::TaskSetPriority(Target::Var(3), 0, 1),
         ),
+        (
+            "task.get_priority self 0 v1\n",
+            Op::TaskGetPriority(Target::Own, 0, 1),
+        ),
         ("task.delete 0\n", Op::TaskDelete(Target::Given(0))),
         (
             "task.wake_after 4294967295\n",
@@ -414,7 +434,11 @@ fn reads_lines_of_bodies(rt: HostRuntime) -> Result<(), Fail> {
             "sem.create T_1a 4294967295 counting fifo none 0 v0\n",
             Op::SemCreate(
                 name,
-                unraised(4_294_967_295, SemKind::Counting, Order::Fifo, 0),
+                4_294_967_295,
+                SemKind::Counting,
+                Order::Fifo,
+                Protocol::NoProtocol,
+                0,
                 0,
             ),
         ),
@@ -422,13 +446,37 @@ fn reads_lines_of_bodies(rt: HostRuntime) -> Result<(), Fail> {
             "sem.create - 0 simple priority none 4294967295 v7\n",
             Op::SemCreate(
                 Name { bits: 0 },
-                unraised(0, SemKind::Simple, Order::Priority, 4_294_967_295),
+                0,
+                SemKind::Simple,
+                Order::Priority,
+                Protocol::NoProtocol,
+                4_294_967_295,
                 7,
             ),
         ),
         (
-            "sem.create T_1a 1 binary priority none 2 v3\n",
-            Op::SemCreate(name, unraised(1, SemKind::Binary, Order::Priority, 2), 3),
+            "sem.create T_1a 1 binary priority inherit 2 v3\n",
+            Op::SemCreate(
+                name,
+                1,
+                SemKind::Binary,
+                Order::Priority,
+                Protocol::Inherit,
+                2,
+                3,
+            ),
+        ),
+        (
+            "sem.create T_1a 0 binary fifo ceiling 255 v4\n",
+            Op::SemCreate(
+                name,
+                0,
+                SemKind::Binary,
+                Order::Fifo,
+                Protocol::Ceiling,
+                255,
+                4,
+            ),
         ),
         ("sem.ident T_1a v4\n", Op::SemIdent(name, 4)),
         (
@@ -442,6 +490,10 @@ fn reads_lines_of_bodies(rt: HostRuntime) -> Result<(), Fail> {
         ("sem.release self\n", Op::SemRelease(Target::Own)),
         ("sem.flush v2\n", Op::SemFlush(Target::Var(2))),
         ("sem.delete v3\n", Op::SemDelete(Target::Var(3))),
+        (
+            "sem.set_priority v3 0 4294967295 v1\n",
+            Op::SemSetPriority(Target::Var(3), 0, 4_294_967_295, 1),
+        ),
         (
             "barrier.create T_1a auto 4294967295 v0\n",
             Op::BarrierCreate(name, true, 4_294_967_295, 0),
@@ -501,6 +553,44 @@ fn reads_lines_of_bodies(rt: HostRuntime) -> Result<(), Fail> {
         let body = scenario.bodies.get(1).ok_or("a body")?;
         assert_eq!(rt; body.lines.as_slice(), [Op::Work(1), op].as_slice());
     }
+    Ok(())
+}
+
+#[test]
+fn reads_numbers_of_clusters(rt: HostRuntime) -> Result<(), Fail> {
+    let open = "rtems 1\ncluster 2\ncluster 2\ncluster 2\ncluster 2\nticks 0\nbody b\n";
+    let rows = [
+        (
+            "task.get_priority v1 3 v7\n",
+            Op::TaskGetPriority(Target::Var(1), 3, 7),
+        ),
+        (
+            "task.get_priority 0 0x00000002 v0\n",
+            Op::TaskGetPriority(Target::Given(0), 2, 0),
+        ),
+        (
+            "sem.set_priority v1 3 0 v7\n",
+            Op::SemSetPriority(Target::Var(1), 3, 0, 7),
+        ),
+    ];
+    for (line, op) in rows {
+        let text = repeated(rt.alloc(), open, line, 1, "end\n")?;
+        let scenario = read_scenario(rt.alloc(), text.as_bytes())?;
+        let body = scenario.bodies.get(0).ok_or("a body")?;
+        assert_eq!(rt; body.lines.as_slice(), [op].as_slice());
+    }
+    let text = repeated(
+        rt.alloc(),
+        open,
+        "task.get_priority self 4 v0\n",
+        1,
+        "end\n",
+    )?;
+    let want = Some(ScenarioError::Refused {
+        line: 8,
+        why: RANGE,
+    });
+    assert_eq!(rt; refusal(rt.alloc(), text.as_bytes()), want);
     Ok(())
 }
 

@@ -1,7 +1,7 @@
 -- What the lines of bodies are, by what stands there.
 use Rattle.std.specs.Prelude.{ℕ, Bool, true, false, Option, Some, None}
 use Rattle.rk_model.specs.declared.scenario.Op.{Op}
-use Rattle.rk_model.specs.declared.scenario.Op.TheVariants.{Work, Goto, TaskCreate, TaskIdent, TaskSetPriority, EventReceive, SemCreate, SemIdent, BarrierCreate, BarrierIdent, BarrierRelease, PartCreate, PartIdent, PartGet, PeriodCreate, PeriodIdent}
+use Rattle.rk_model.specs.declared.scenario.Op.TheVariants.{Work, Goto, TaskCreate, TaskIdent, TaskSetPriority, TaskGetPriority, EventReceive, SemCreate, SemIdent, SemSetPriority, BarrierCreate, BarrierIdent, BarrierRelease, PartCreate, PartIdent, PartGet, PeriodCreate, PeriodIdent}
 
 -- What a line of a body is to a thread that arrives there: it computes for so many ticks, it is led to another line, or it acts by a directive.
 pub data Kind : Type 0 where
@@ -49,9 +49,11 @@ abbrev pub result_var : Option Op → Option ℕ
 result_var (Some (TaskCreate name prio var)) = Some var
 result_var (Some (TaskIdent name var)) = Some var
 result_var (Some (TaskSetPriority id prio var)) = Some var
+result_var (Some (TaskGetPriority id cluster var)) = Some var
 result_var (Some (EventReceive set all wish var)) = Some var
-result_var (Some (SemCreate name spec var)) = Some var
+result_var (Some (SemCreate name count kind order _ ceiling var)) = Some var
 result_var (Some (SemIdent name var)) = Some var
+result_var (Some (SemSetPriority id cluster prio var)) = Some var
 result_var (Some (BarrierCreate name automatic most var)) = Some var
 result_var (Some (BarrierIdent name var)) = Some var
 result_var (Some (BarrierRelease id var)) = Some var

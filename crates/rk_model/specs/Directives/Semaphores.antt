@@ -1,7 +1,9 @@
 -- The directives of the semaphore manager: what they do to one semaphore, and the rules.
-use Rattle.std.specs.Prelude.{ℕ, ◌+◌, ◌-◌, ◌==◌, nat_lt, List, [], ◌∷◌, Bool, true, false, not, ◌&&◌, ◌||◌, Option, Some, None, is_some, length, map, if◌then◌else◌}
+use Rattle.std.specs.Prelude.{ℕ, ◌+◌, ◌-◌, ◌==◌, nat_lt, List, [], ◌∷◌, Bool, true, false, not, ◌&&◌, ◌||◌, Option, Some, None, is_none, is_some, length, map, replicate, if◌then◌else◌}
+use Rattle.std.specs.List.{slice_index_or, slice_set}
 use Rattle.rk_model.specs.declared.ids.Class.TheVariants.{Semaphore}
-use Rattle.rk_model.specs.declared.limits.TheConstants.{LEAST_URGENT, MOST_COUNT, MOST_NESTING}
+use Rattle.rk_model.specs.declared.entry.Reply.{Reply}
+use Rattle.rk_model.specs.declared.limits.TheConstants.{LEAST_URGENT, MOST_CLUSTERS, MOST_COUNT, MOST_NESTING}
 use Rattle.rk_model.specs.declared.scenario.Target.{Target}
 use Rattle.rk_model.specs.declared.scenario.Wish.{Wish}
 use Rattle.rk_model.specs.declared.scenario.Wish.TheVariants.{NoWait, Limit}
@@ -17,13 +19,13 @@ use Rattle.rk_model.specs.declared.state.Wait.TheVariants.{ForSemaphore}
 use Rattle.rk_model.specs.declared.waiting.Order.{Order}
 use Rattle.rk_model.specs.declared.waiting.Order.TheVariants.{Fifo, Priority}
 use Rattle.rk_model.specs.declared.waiting.Waiter.{Waiter}
-use Rattle.rk_model.specs.State.{Plain, SemaphoreState, no_semaphore, semaphore_at, put_semaphore}
+use Rattle.rk_model.specs.State.{Plain, SemaphoreState, no_ceilings, no_semaphore, semaphore_at, put_semaphore}
 use Rattle.rk_model.specs.Queues.{Queue, threads, empty, reordered, first_of, served_by}
 use Rattle.rk_model.specs.Scheduling.Chains.{reaches, waits_on}
-use Rattle.rk_model.specs.Scheduling.Priorities.{home_prio}
+use Rattle.rk_model.specs.Scheduling.Priorities.{ceiling_in, home_prio, is_one}
 use Rattle.rk_model.specs.Directives.Objects.{object_named, create, ident, without_object}
 use Rattle.rk_model.specs.Directives.Outcomes.{Outcome, Refused, Waiting, done, on_found}
-use Rattle.rk_model.specs.Directives.Waits.{with_waiter, begin_limited, stop_wait, stop_each, bare}
+use Rattle.rk_model.specs.Directives.Waits.{caller_at, with_waiter, begin_limited, stop_wait, stop_each, bare}
 
 -- ---- kinds and protocols
 
@@ -112,23 +114,31 @@ judged spec by = status_of_refusal (spec_refusal spec by.prio)
 abbrev pub owned_by : ℕ → SemaphoreState → SemaphoreState
 owned_by t sem = record sem { owner = Some t; nesting = 1 }
 
--- a semaphore without an owner that was created, which has a count unless it is a binary one
-abbrev pub free_semaphore : SemSpec → SemaphoreState
-free_semaphore spec =
+-- the ceilings of a semaphore that was created with a protocol and a ceiling by a task of this home: a ceiling semaphore has one there alone, a MrsP one has one in every cluster
+abbrev pub new_ceilings : Protocol → ℕ → ℕ → List ℕ
+new_ceilings NoProtocol ceiling home = no_ceilings
+new_ceilings Inherit ceiling home = no_ceilings
+new_ceilings Ceiling ceiling home = slice_set no_ceilings home ceiling
+new_ceilings Mrsp ceiling home = replicate MOST_CLUSTERS ceiling
+
+-- a semaphore without an owner that was created by a task of this home, which has a count unless it is a binary one
+abbrev pub free_semaphore : SemSpec → ℕ → SemaphoreState
+free_semaphore spec home =
     record {
       live = true;
       kind = spec.kind;
       protocol = spec.protocol;
+      ceilings = new_ceilings spec.protocol spec.ceiling home;
       count = if is_binary spec.kind then 0 else spec.count;
       owner = None;
       nesting = 0;
       queue = empty spec.order;
     }
 
--- A semaphore that a thread created, for which none waits: a binary one with count 0 is owned by its creator with nesting 1.
-abbrev pub new_semaphore : SemSpec → ℕ → SemaphoreState
-new_semaphore spec t =
-    if is_binary spec.kind && (spec.count == 0) then owned_by t (free_semaphore spec) else free_semaphore spec
+-- A semaphore that a task created, for which none waits: a binary one with count 0 is owned by its creator with nesting 1, and a ceiling semaphore belongs to the creator's home.
+abbrev pub new_semaphore : SemSpec → Caller → SemaphoreState
+new_semaphore spec by =
+    if is_binary spec.kind && (spec.count == 0) then owned_by by.thread (free_semaphore spec by.home) else free_semaphore spec by.home
 
 -- ---- sem.obtain
 
@@ -136,14 +146,9 @@ new_semaphore spec t =
 abbrev pub is_owned : SemaphoreState → Bool
 is_owned sem = is_some sem.owner
 
--- whether a thread is this one, if it is one
-abbrev pub is_thread : ℕ → Option ℕ → Bool
-is_thread t None = false
-is_thread t (Some owner) = owner == t
-
 -- whether a thread owns it
 abbrev pub owns : ℕ → SemaphoreState → Bool
-owns t sem = is_thread t sem.owner
+owns t sem = is_one t sem.owner
 
 -- whether it is free: a binary one without owner, a counting or simple one with a count above 0
 abbrev pub is_free : SemaphoreState → Bool
@@ -165,10 +170,25 @@ abbrev pub obtaining_later : Wish → Bool → SemaphoreState → Obtaining
 obtaining_later NoWait closes sem = NotObtained Unsatisfied
 obtaining_later (Limit ticks) closes sem = if is_owned sem && closes then NotObtained IncorrectState else Enters ticks
 
--- rtems_semaphore_obtain, where `closes` says whether the chain of the owner reaches the caller: where the caller owns it, the nesting rises by one; where it is free, the caller takes it; UNSATISFIED where the wish is `nowait`; INCORRECT_STATE where it has an owner and `closes` holds; else the caller waits. A nesting of 18446744073709551615 can't rise: UNSATISFIED.
-abbrev pub obtaining : ℕ → Wish → Bool → SemaphoreState → Obtaining
-obtaining t wish closes sem =
-    if owns t sem then nesting_by sem
+-- whether it is a ceiling semaphore of another cluster than this home
+abbrev pub is_elsewhere : ℕ → SemaphoreState → Bool
+is_elsewhere home sem = has_ceiling sem.protocol && is_none (ceiling_in home sem)
+
+-- whether a priority is less than this ceiling, if it is one
+abbrev pub is_less : ℕ → Option ℕ → Bool
+is_less prio None = false
+is_less prio (Some ceiling) = nat_lt prio ceiling
+
+-- the owner obtains it once more, unless it is MrsP
+abbrev pub obtaining_again : SemaphoreState → Obtaining
+obtaining_again sem = if is_mrsp sem.protocol then NotObtained Unsatisfied else nesting_by sem
+
+-- rtems_semaphore_obtain, where `closes` says whether the chain of the owner reaches the caller: NOT_DEFINED where it is a ceiling semaphore of another cluster than the caller's home; where the caller owns it, UNSATISFIED for MrsP, else the nesting rises by one; INVALID_PRIORITY where it has a ceiling in the caller's home and the caller's priority is less than it; where it is free, the caller takes it; UNSATISFIED where the wish is `nowait`; INCORRECT_STATE where it has an owner and `closes` holds; else the caller waits. A nesting of 18446744073709551615 can't rise: UNSATISFIED.
+abbrev pub obtaining : Caller → Wish → Bool → SemaphoreState → Obtaining
+obtaining by wish closes sem =
+    if is_elsewhere by.home sem then NotObtained NotDefined
+    else if owns by.thread sem then obtaining_again sem
+    else if is_less by.prio (ceiling_in by.home sem) then NotObtained InvalidPriority
     else if is_free sem then Takes
     else obtaining_later wish closes sem
 
@@ -276,6 +296,38 @@ status_of_deleting sem = if is_owned sem then ResourceInUse else Successful
 abbrev pub after_deleting : SemaphoreState → SemaphoreState
 after_deleting sem = if is_owned sem then sem else no_semaphore
 
+-- ---- sem.set_priority
+
+-- What a setting of a ceiling comes to: it is refused with a status, nothing changes, or there is another ceiling.
+pub data CeilingSetting : Type 0 where
+  NotSet : Status → CeilingSetting
+  Keeps : CeilingSetting
+  Sets : CeilingSetting
+
+-- rtems_semaphore_set_priority: INVALID_PRIORITY where the priority is above 255; NOT_DEFINED where it has no ceiling in the cluster; with priority 0 nothing changes; else its ceiling in that cluster is set.
+abbrev pub setting_ceiling : ℕ → ℕ → SemaphoreState → CeilingSetting
+setting_ceiling c prio sem =
+    if nat_lt LEAST_URGENT prio then NotSet InvalidPriority
+    else if is_none (ceiling_in c sem) then NotSet NotDefined
+    else if prio == 0 then Keeps
+    else Sets
+
+-- the semaphore with another ceiling in a cluster
+abbrev pub with_ceiling : ℕ → ℕ → SemaphoreState → SemaphoreState
+with_ceiling c prio sem = record sem { ceilings = slice_set sem.ceilings c prio }
+
+-- the semaphore after a setting that came to this
+abbrev pub after_setting : CeilingSetting → ℕ → ℕ → SemaphoreState → SemaphoreState
+after_setting (NotSet status) c prio sem = sem
+after_setting Keeps c prio sem = sem
+after_setting Sets c prio sem = with_ceiling c prio sem
+
+-- the reply to it: the ceiling there before
+abbrev pub reply_to_setting : CeilingSetting → ℕ → SemaphoreState → Reply
+reply_to_setting (NotSet status) c sem = bare status
+reply_to_setting Keeps c sem = record { status = Successful; out = slice_index_or sem.ceilings c 0 }
+reply_to_setting Sets c sem = record { status = Successful; out = slice_index_or sem.ceilings c 0 }
+
 -- ---- the priorities of those that wait
 
 -- a thread waits for it with another priority
@@ -297,14 +349,14 @@ up_to_date k sem = record sem { queue = up_to_date_by k sem.queue.order sem.queu
 
 -- ---- the rules
 
--- why a semaphore can't be created so far: its protocol isn't none, which is the only one that is built, or one of the conditions of `judged` holds
+-- why a semaphore can't be created so far: its protocol is MrsP, which isn't built, or one of the conditions of `judged` holds
 abbrev pub create_refusal : SemSpec → ℕ → Option Status
-create_refusal spec prio = if has_protocol spec.protocol then Some NotDefined else spec_refusal spec prio
+create_refusal spec prio = if is_mrsp spec.protocol then Some NotDefined else spec_refusal spec prio
 
--- sem.create (rtems_semaphore_create): INVALID_NAME where the name is 0; NOT_DEFINED where the protocol isn't none, which no text says so far; INVALID_NUMBER where the kind isn't counting and the count is above 1; TOO_MANY where 64 semaphores live; else a semaphore for which none waits, and which the caller owns where it is a binary one with count 0. Out: its id.
+-- sem.create (rtems_semaphore_create): INVALID_NAME where the name is 0; NOT_DEFINED where the protocol is MrsP, which no text says so far; the refusal of `judged`, where it isn't SUCCESSFUL; TOO_MANY where 64 semaphores live; else a semaphore for which none waits, and which the caller owns where it is a binary one with count 0. Out: its id.
 abbrev pub semaphore_create : Plain → ℕ → ℕ → SemSpec → Outcome
 semaphore_create k t name spec =
-    create k Semaphore name (create_refusal spec (home_prio k t)) (λ index next. put_semaphore next index (new_semaphore spec t))
+    create k Semaphore name (create_refusal spec (home_prio k t)) (λ index next. put_semaphore next index (new_semaphore spec (caller_at k t)))
 
 -- sem.ident (rtems_semaphore_ident): INVALID_NAME where no live semaphore has the name. Out: the id of the live semaphore of least index that has it.
 abbrev pub semaphore_ident : Plain → ℕ → Outcome
@@ -322,10 +374,10 @@ obtained_at k t i Takes = done 0 (put_semaphore k i (taken t (semaphore_at k i))
 obtained_at k t i (NotObtained status) = Refused status
 obtained_at k t i (Enters ticks) = Waiting (begin_limited k t (ForSemaphore i (is_mrsp (semaphore_at k i).protocol)) ticks)
 
--- sem.obtain (rtems_semaphore_obtain): INVALID_ID where the semaphore is unknown; where the caller owns it, its nesting rises by one; where it is free, the caller takes it; UNSATISFIED with the wish `nowait`; INCORRECT_STATE where it has an owner whose chain reaches the caller; else the caller waits with the wish as its limit, and for a MrsP semaphore it spins.
+-- sem.obtain (rtems_semaphore_obtain): INVALID_ID where the semaphore is unknown; NOT_DEFINED where it is a ceiling semaphore of another cluster than the caller's home; where the caller owns it, UNSATISFIED for MrsP, else its nesting rises by one; INVALID_PRIORITY where the caller's priority is less than its ceiling in the caller's home; where it is free, the caller takes it; UNSATISFIED with the wish `nowait`; INCORRECT_STATE where it has an owner whose chain reaches the caller; else the caller waits with the wish as its limit, and for a MrsP semaphore it spins.
 abbrev pub semaphore_obtain : Plain → ℕ → Target → Wish → Outcome
 semaphore_obtain k t id wish =
-    on_found (object_named k t Semaphore id) (λ i. obtained_at k t i (obtaining t wish (reaches_from k (semaphore_at k i).owner t) (semaphore_at k i)))
+    on_found (object_named k t Semaphore id) (λ i. obtained_at k t i (obtaining (caller_at k t) wish (reaches_from k (semaphore_at k i).owner t) (semaphore_at k i)))
 
 -- a semaphore has served a thread, which waits no longer: its wait ends with SUCCESSFUL
 abbrev pub served_at : Plain → ℕ → ℕ → Plain
@@ -360,6 +412,17 @@ without_semaphore k i = without_object (emptied_at k i no_semaphore ObjectWasDel
 abbrev pub semaphore_delete : Plain → ℕ → Target → Outcome
 semaphore_delete k t id =
     on_found (object_named k t Semaphore id) (λ i. if is_owned (semaphore_at k i) then Refused ResourceInUse else done 0 (without_semaphore k i))
+
+-- a caller has found a semaphore, and the setting of its ceiling comes to this
+abbrev pub set_at : Plain → ℕ → ℕ → ℕ → CeilingSetting → Outcome
+set_at k i c prio (NotSet status) = Refused status
+set_at k i c prio Keeps = done (slice_index_or (semaphore_at k i).ceilings c 0) k
+set_at k i c prio Sets = done (slice_index_or (semaphore_at k i).ceilings c 0) (put_semaphore k i (with_ceiling c prio (semaphore_at k i)))
+
+-- sem.set_priority (rtems_semaphore_set_priority): INVALID_ID where the semaphore is unknown; INVALID_PRIORITY where the priority is above 255; NOT_DEFINED where it has no ceiling in the named cluster, as it is neither a ceiling nor a MrsP semaphore, or a ceiling semaphore that belongs to another one; with priority 0 nothing changes; else its ceiling there is set. Out: the ceiling there before the call.
+abbrev pub semaphore_set_priority : Plain → ℕ → Target → ℕ → ℕ → Outcome
+semaphore_set_priority k t id c prio =
+    on_found (object_named k t Semaphore id) (λ i. set_at k i c prio (setting_ceiling c prio (semaphore_at k i)))
 
 -- whether a thread owns one of these semaphores
 abbrev pub has_obtained : List SemaphoreState → ℕ → Bool

@@ -2,7 +2,7 @@
 use Rattle.std.specs.Prelude.{ℕ, Bool, true, false, ◌||◌, ◌&&◌, List, [], ◌∷◌, nat_lt, Option, Some, None, ◌==◌, if◌then◌else◌}
 use Rattle.rk_model.specs.declared.limits.TheConstants.{LEAST_URGENT}
 use Rattle.rk_model.specs.declared.status.Status.{Status}
-use Rattle.rk_model.specs.declared.status.Status.TheVariants.{Successful, TaskExitted, IncorrectState, AlreadySuspended, InvalidPriority, ResourceInUse}
+use Rattle.rk_model.specs.declared.status.Status.TheVariants.{Successful, TaskExitted, IncorrectState, AlreadySuspended, InvalidPriority, NotDefined, ResourceInUse}
 use Rattle.rk_model.specs.declared.ids.Class.TheVariants.{Task}
 use Rattle.rk_model.specs.declared.scenario.Target.{Target}
 use Rattle.rk_model.specs.declared.scenario.Target.TheVariants.{Var, Own, Given}
@@ -14,7 +14,7 @@ use Rattle.rk_model.specs.declared.state.Armer.TheVariants.{Thread as OfThread}
 use Rattle.rk_model.specs.State.{Plain, PeriodState, no_thread, thread_at, put_thread}
 use Rattle.rk_model.specs.Scheduling.Timers.{cancel}
 use Rattle.rk_model.specs.Directives.Objects.{object_of, create, ident, without_object}
-use Rattle.rk_model.specs.Scheduling.Priorities.{home_prio}
+use Rattle.rk_model.specs.Scheduling.Priorities.{home_prio, prio}
 use Rattle.rk_model.specs.Directives.Outcomes.{Outcome, Refused, Done, Waiting, Gone, done, on_found, arrived, var_at}
 use Rattle.rk_model.specs.Directives.Semaphores.{has_obtained}
 use Rattle.rk_model.specs.Directives.Waits.{begin_limited, leave}
@@ -87,6 +87,15 @@ task_set_priority k t id prio =
     if nat_lt LEAST_URGENT prio then Refused InvalidPriority
     else (if prio == 0 then done (home_prio k u) k
     else Done Successful (home_prio k u) (with_base k u prio) (Some u)))
+
+-- the priority of a task, if it has one
+abbrev pub told_prio : Plain → Option ℕ → Outcome
+told_prio k None = Refused NotDefined
+told_prio k (Some p) = done p k
+
+-- task.get_priority (rtems_task_get_priority): INVALID_ID where the task is unknown; NOT_DEFINED where it has no priority in the named cluster. Out: its priority there.
+abbrev pub task_get_priority : Plain → ℕ → Target → ℕ → Outcome
+task_get_priority k t id c = on_found (task_named k t id) (λ u. told_prio k (prio k u c))
 
 -- the state in which a task lives no longer: it has left the queue of what it waited for, its timer is cancelled, its index is free, and nothing is left of it
 abbrev pub without_task : Plain → ℕ → Plain

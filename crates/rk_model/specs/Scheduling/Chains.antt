@@ -1,7 +1,9 @@
 -- Chains of waits: a thread, the one on which it waits, and so on. A chain goes by any function that gives each thread the next, or none.
-use Rattle.std.specs.Prelude.{ℕ, zero, suc, ◌≡◌, List, [], ◌∷◌, Bool, true, false, Option, Some, None}
+use Rattle.std.specs.Prelude.{ℕ, zero, suc, ◌≡◌, List, [], ◌∷◌, Bool, true, false, Option, Some, None, if◌then◌else◌}
 use Rattle.rk_model.specs.declared.state.Wait.{Wait}
 use Rattle.rk_model.specs.declared.state.Wait.TheVariants.{ForTime, ForEvents, AtBarrier, ForPeriod, ForSemaphore}
+use Rattle.rk_model.specs.declared.semaphore.Protocol.{Protocol}
+use Rattle.rk_model.specs.declared.semaphore.Protocol.TheVariants.{NoProtocol, Inherit, Ceiling, Mrsp}
 use Rattle.rk_model.specs.Lists.{has, nth}
 use Rattle.rk_model.specs.State.{Plain, SemaphoreState, no_semaphore, thread_at}
 
@@ -55,3 +57,27 @@ owner_awaited semaphores (Some (ForSemaphore i spins)) = (nth no_semaphore semap
 -- The thread on which a thread waits: the owner of the semaphore for which it waits, if there is one.
 abbrev pub waits_on : Plain → ℕ → Option ℕ
 waits_on k u = owner_awaited k.semaphores (thread_at k u).wait
+
+-- whether those that wait for a semaphore with this protocol lend its owner their priorities
+abbrev pub lends : Protocol → Bool
+lends NoProtocol = false
+lends Inherit = true
+lends Ceiling = false
+lends Mrsp = true
+
+-- the thread to which those lend their priorities that wait for a semaphore: its owner, if there is one and its protocol says so
+abbrev pub borrower : SemaphoreState → Option ℕ
+borrower sem = if lends sem.protocol then sem.owner else None
+
+-- the thread to which one lends its priority that waits for this, if there is one
+abbrev pub borrower_awaited : List SemaphoreState → Option Wait → Option ℕ
+borrower_awaited semaphores None = None
+borrower_awaited semaphores (Some ForTime) = None
+borrower_awaited semaphores (Some (ForEvents set all)) = None
+borrower_awaited semaphores (Some (AtBarrier i)) = None
+borrower_awaited semaphores (Some (ForPeriod i)) = None
+borrower_awaited semaphores (Some (ForSemaphore i spins)) = borrower (nth no_semaphore semaphores i)
+
+-- The thread to which a thread lends its priority: the one on which it waits, where it does so through inheritance or MrsP.
+abbrev pub lends_to : Plain → ℕ → Option ℕ
+lends_to k u = borrower_awaited k.semaphores (thread_at k u).wait

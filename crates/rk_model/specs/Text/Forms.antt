@@ -10,7 +10,7 @@ use Rattle.rk_model.specs.declared.semaphore.Protocol.{Protocol as ProtocolOf}
 use Rattle.rk_model.specs.declared.semaphore.SemKind.{SemKind}
 use Rattle.rk_model.specs.declared.waiting.Order.{Order as OrderOf}
 use Rattle.rk_model.specs.declared.scenario.Op.{Op}
-use Rattle.rk_model.specs.declared.scenario.Op.TheVariants.{Work, Goto, TaskCreate, TaskIdent, TaskStart, TaskSuspend, TaskResume, TaskSetPriority, TaskDelete, TaskWakeAfter, EventSend, EventReceive, SemCreate, SemIdent, SemObtain, SemRelease, SemFlush, SemDelete, BarrierCreate, BarrierIdent, BarrierWait, BarrierRelease, BarrierDelete, PartCreate, PartIdent, PartGet, PartReturn, PartDelete, PeriodCreate, PeriodIdent, PeriodPeriod, PeriodCancel, PeriodDelete}
+use Rattle.rk_model.specs.declared.scenario.Op.TheVariants.{Work, Goto, TaskCreate, TaskIdent, TaskStart, TaskSuspend, TaskResume, TaskSetPriority, TaskGetPriority, TaskDelete, TaskWakeAfter, EventSend, EventReceive, SemCreate, SemIdent, SemObtain, SemRelease, SemFlush, SemDelete, SemSetPriority, BarrierCreate, BarrierIdent, BarrierWait, BarrierRelease, BarrierDelete, PartCreate, PartIdent, PartGet, PartReturn, PartDelete, PeriodCreate, PeriodIdent, PeriodPeriod, PeriodCancel, PeriodDelete}
 
 -- What a word behind the first stands for.
 pub data Operand : Type 0 where
@@ -26,6 +26,8 @@ pub data Operand : Type 0 where
   Id : Operand
   -- an address: a variable or a number
   Address : Operand
+  -- the number of a cluster of the scenario
+  Cluster : Operand
   -- a body's name
   B : Operand
   -- the number of an earlier line of the body that isn't a goto
@@ -40,7 +42,7 @@ pub data Operand : Type 0 where
   SemaphoreKind : Operand
   -- the order in which the queue of a semaphore serves: `fifo` or `priority`
   Order : Operand
-  -- the protocol of a semaphore: `none`, which is the only one so far
+  -- the protocol of a semaphore: `none`, `inherit` or `ceiling`; `mrsp` is no word of the language so far
   Protocol : Operand
 
 -- any number of 32 bits
@@ -55,6 +57,7 @@ Value Name0 = NameOf
 Value Var = ℕ
 Value Id = Target
 Value Address = Target
+Value Cluster = ℕ
 Value B = ℕ
 Value Earlier = ℕ
 Value Mode = Bool
@@ -68,10 +71,6 @@ Value Protocol = ProtocolOf
 abbrev pub Makes : List Operand → Type 0
 Makes [] = Op
 Makes (operand ∷ operands) = Value operand → Makes operands
-
--- the op of a line sem.create of these values
-abbrev pub sem_create_of : NameOf → ℕ → SemKind → OrderOf → ProtocolOf → ℕ → ℕ → Op
-sem_create_of name count kind order protocol ceiling var = SemCreate name (record { count = count; kind = kind; order = order; protocol = protocol; ceiling = ceiling }) var
 
 -- The form of a line: its first word, its operands, and the op that their values make.
 pub data Form : Type 0 where
@@ -87,16 +86,18 @@ form_of (TaskStart id body) = Row (codes "task.start") (Id ∷ B ∷ []) TaskSta
 form_of (TaskSuspend id) = Row (codes "task.suspend") (Id ∷ []) TaskSuspend
 form_of (TaskResume id) = Row (codes "task.resume") (Id ∷ []) TaskResume
 form_of (TaskSetPriority id prio var) = Row (codes "task.set_priority") (Id ∷ Any ∷ Var ∷ []) TaskSetPriority
+form_of (TaskGetPriority id cluster var) = Row (codes "task.get_priority") (Id ∷ Cluster ∷ Var ∷ []) TaskGetPriority
 form_of (TaskDelete id) = Row (codes "task.delete") (Id ∷ []) TaskDelete
 form_of (TaskWakeAfter n) = Row (codes "task.wake_after") (Any ∷ []) TaskWakeAfter
 form_of (EventSend id set) = Row (codes "event.send") (Id ∷ Any ∷ []) EventSend
 form_of (EventReceive set all wish var) = Row (codes "event.receive") (Any ∷ Mode ∷ Wish ∷ Var ∷ []) EventReceive
-form_of (SemCreate name spec var) = Row (codes "sem.create") (Name0 ∷ Any ∷ SemaphoreKind ∷ Order ∷ Protocol ∷ Any ∷ Var ∷ []) sem_create_of
+form_of (SemCreate name count kind order _ ceiling var) = Row (codes "sem.create") (Name0 ∷ Any ∷ SemaphoreKind ∷ Order ∷ Protocol ∷ Any ∷ Var ∷ []) SemCreate
 form_of (SemIdent name var) = Row (codes "sem.ident") (Name ∷ Var ∷ []) SemIdent
 form_of (SemObtain id wish) = Row (codes "sem.obtain") (Id ∷ Wish ∷ []) SemObtain
 form_of (SemRelease id) = Row (codes "sem.release") (Id ∷ []) SemRelease
 form_of (SemFlush id) = Row (codes "sem.flush") (Id ∷ []) SemFlush
 form_of (SemDelete id) = Row (codes "sem.delete") (Id ∷ []) SemDelete
+form_of (SemSetPriority id cluster prio var) = Row (codes "sem.set_priority") (Id ∷ Cluster ∷ Any ∷ Var ∷ []) SemSetPriority
 form_of (BarrierCreate name automatic most var) = Row (codes "barrier.create") (Name0 ∷ Kind ∷ Any ∷ Var ∷ []) BarrierCreate
 form_of (BarrierIdent name var) = Row (codes "barrier.ident") (Name ∷ Var ∷ []) BarrierIdent
 form_of (BarrierWait id ticks) = Row (codes "barrier.wait") (Id ∷ Any ∷ []) BarrierWait

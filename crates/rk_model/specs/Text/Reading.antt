@@ -180,6 +180,7 @@ operand_of known Operand.Name0 word = name0_operand word
 operand_of known Operand.Var word = var_operand word
 operand_of known Operand.Id word = id_operand word
 operand_of known Operand.Address word = address_operand word
+operand_of known Operand.Cluster word = cluster_operand known.clusters word
 operand_of known Operand.B word = start_operand known word
 operand_of known Operand.Earlier word = goto_operand known.earlier word
 operand_of known Operand.Mode word = either_operand (codes "any") (codes "all") word

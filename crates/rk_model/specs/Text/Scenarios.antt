@@ -25,6 +25,11 @@ pub record IsNumber (word : List ℕ) (n least most : ℕ) : Type 0 where
   pub low : least ≤ n
   pub high : n ≤ most
 
+-- The word is a CLUSTER: the number of one of so many clusters, the first of which has the number 0.
+pub record IsClusterNumber (clusters : ℕ) (word : List ℕ) (c : ℕ) : Type 0 where
+  pub value : number_of word ≡ Some c
+  pub there : c < clusters
+
 -- The word is an ID: a variable, `self`, or a number.
 abbrev pub IsId : List ℕ → Target → Type 0
 IsId word (Var var) = var_of word ≡ Some var
@@ -103,6 +108,7 @@ IsSpelled known Operand.Name0 word name = name0_of word ≡ Some name.bits
 IsSpelled known Operand.Var word var = var_of word ≡ Some var
 IsSpelled known Operand.Id word id = IsId word id
 IsSpelled known Operand.Address word address = IsAddress word address
+IsSpelled known Operand.Cluster word c = IsClusterNumber known.clusters word c
 IsSpelled known Operand.B word body = body_known known.bodies known.own word ≡ Some body
 IsSpelled known Operand.Earlier word n = IsEarlier known.earlier word n
 IsSpelled known Operand.Mode word all = IsEither word (codes "any") (codes "all") all
@@ -161,8 +167,7 @@ pub record IsInit (s : Scenario) (words : List (List ℕ)) (init : Init) : Type 
   pub body : List ℕ
   pub words_are : words ≡ codes "init" ∷ name ∷ cluster ∷ priority ∷ body ∷ []
   pub name_is : name_of name ≡ Some init.name.bits
-  pub cluster_is : number_of cluster ≡ Some init.cluster
-  pub cluster_below : init.cluster < length s.clusters
+  pub cluster_is : IsClusterNumber (length s.clusters) cluster init.cluster
   pub priority_is : IsNumber priority init.prio 1 LEAST_URGENT
   pub body_is : body_of s.bodies body ≡ Some init.body
 
