@@ -9,7 +9,8 @@ use Rattle.rk_model.specs.declared.waiting.Wake.{Wake}
 use Rattle.rk_model.specs.Lists.{has, nth, times, with_nth}
 use Rattle.rk_model.specs.Queues.{clusters, without, without_turn, turns_kept, cluster_of, waits_in, IsQueue}
 use Rattle.rk_model.specs.State.{SemaphoreState, no_semaphore, no_barrier, no_partition, no_period}
-use Rattle.rk_model.specs.Directives.Semaphores.{has_obtained, is_thread, owns}
+use Rattle.rk_model.specs.Directives.Semaphores.{has_obtained, owns}
+use Rattle.rk_model.specs.Scheduling.Priorities.{is_one}
 use Rattle.rk_model.specs.Directives.Waits.{without_waiter}
 use Rattle.rk_model.proofs.CountLemmas.{has_none}
 use Rattle.rk_model.proofs.KeyLemmas.{without_none}
@@ -174,7 +175,7 @@ leaves_semaphore groups at i t group store low high found is_store is =
 -- ---- who owns one
 
 -- whether an owner is a thread, as the code tests it
-pub owner_test : (same : ℕ → ℕ → Bool) (t : ℕ) (owner : Option ℕ) → ((u : ℕ) → same u t ≡ (u == t)) → option_eq same owner (Some t) ≡ is_thread t owner
+pub owner_test : (same : ℕ → ℕ → Bool) (t : ℕ) (owner : Option ℕ) → ((u : ℕ) → same u t ≡ (u == t)) → option_eq same owner (Some t) ≡ is_one t owner
 owner_test same t None alike = refl
 owner_test same t (Some u) alike = alike u
 

@@ -2,7 +2,7 @@
 //! of the lent groups whose semaphores are those of its group.
 
 ghost use Rattle.std.specs.Prelude.{◌≡◌, ◌<◌, ◌≤◌, [], IfSome, Some, length, slice_get, true, false};
-ghost use Rattle.rk_model.specs.declared.limits.TheConstants.{MOST_OBJECTS};
+ghost use Rattle.rk_model.specs.declared.limits.TheConstants.{MOST_CLUSTERS, MOST_OBJECTS};
 ghost use Rattle.rk_model.specs.Directives.Waits.{OfSemaphore};
 ghost use Rattle.rk_model.specs.declared.status.Status.TheVariants.{Successful};
 ghost use Rattle.rk_model.specs.Directives.Semaphores.{has_obtained, is_mrsp, judged, new_semaphore, flushed, after_deleting, with_prio_of};
@@ -10,13 +10,13 @@ ghost use Rattle.rk_model.specs.Directives.Waits.{bare};
 ghost use Rattle.rk_model.specs.Queues.{threads, waits_in, IsQueue};
 ghost use Rattle.rk_model.specs.State.{no_semaphore};
 ghost use Rattle.rk_places.specs.Stores.{IsOfGroup, IsStoreOf, stored_at, put_at};
-ghost use Rattle.rk_sem.specs.SemaphoreCalls.{obtained, released, reply_to_obtain, reply_to_release, reply_to_remove, serves, woken_by_flush, woken_by_release, woken_by_remove};
+ghost use Rattle.rk_sem.specs.SemaphoreCalls.{obtained, released, reply_to_obtain, reply_to_release, reply_to_remove, serves, woken_by_flush, woken_by_release, woken_by_remove, reply_to_set, with_set};
 ghost use Rattle.rk_groups.specs.GroupObjects.{semaphore_lent, semaphores_of};
 ghost use Rattle.rk_groups.specs.Groups.{group_at, semaphores_in, holds_semaphores, woken_in, PutsSemaphore, Leaves, left_semaphore};
 
 use crate::group::{GroupPart, unknown};
-use rk_model::limits::MOST_OBJECTS;
-use rk_model::{Caller, Order, Prio, Reply, SemSpec, Status, ThreadIx, Wake, Wish};
+use rk_model::limits::{MOST_CLUSTERS, MOST_OBJECTS};
+use rk_model::{Caller, Order, Prio, Protocol, Reply, SemSpec, Status, ThreadIx, Wake, Wish};
 use rk_sem::SemStore;
 
 /// The first of the lent groups whose semaphores are those of an index's group. Its contract also
@@ -57,6 +57,32 @@ pub fn owner(groups: &[GroupPart], index: u16) -> Option<ThreadIx>
     match place_of(groups, index) {
         Some(at) => groups[at].semaphores.owner(index),
         None => None,
+    }
+}
+
+/// The protocol of a semaphore. There is no semaphore at 0 and above 64.
+pub fn protocol(groups: &[GroupPart], index: u16) -> Protocol
+    ensures { result ≡ (semaphore_lent groups.now index).protocol }
+{
+    if index < 1 || index as usize > MOST_OBJECTS {
+        return Protocol::NoProtocol;
+    }
+    match place_of(groups, index) {
+        Some(at) => groups[at].semaphores.protocol(index),
+        None => Protocol::NoProtocol,
+    }
+}
+
+/// The ceilings of a semaphore in the clusters 0 to 3; 0 where it has none.
+pub fn ceilings(groups: &[GroupPart], index: u16) -> [u8; MOST_CLUSTERS]
+    ensures { result ≡ (semaphore_lent groups.now index).ceilings }
+{
+    if index < 1 || index as usize > MOST_OBJECTS {
+        return [0; MOST_CLUSTERS];
+    }
+    match place_of(groups, index) {
+        Some(at) => groups[at].semaphores.ceilings(index),
+        None => [0; MOST_CLUSTERS],
     }
 }
 
@@ -135,7 +161,7 @@ pub fn create(groups: &mut [GroupPart], index: u16, spec: SemSpec, by: Caller)
     requires vacant { (semaphore_lent groups.old index).live ≡ false }
     requires judged { judged spec by ≡ Successful }
     requires kept { is_mrsp spec.protocol ≡ false }
-    ensures { PutsSemaphore groups.old index (new_semaphore spec by.thread) groups.new }
+    ensures { PutsSemaphore groups.old index (new_semaphore spec by) groups.new }
 {
     if let Some(at) = place_of(groups, index) {
         groups[at].semaphores.create(index, spec, by);
@@ -246,6 +272,21 @@ pub fn reorder(groups: &mut [GroupPart], index: u16, thread: ThreadIx, prio: Pri
 {
     if let Some(at) = place_of(groups, index) {
         groups[at].semaphores.reorder(index, thread, prio);
+    }
+}
+
+/// Sets the ceiling of a semaphore that lives in a cluster, where it has one there.
+pub fn set_ceiling(groups: &mut [GroupPart], index: u16, cluster: u8, prio: u32) -> Reply
+    requires low { 1 ≤ index }
+    requires high { index ≤ MOST_OBJECTS }
+    requires live { (semaphore_lent groups.old index).live ≡ true }
+    requires cluster { cluster < MOST_CLUSTERS }
+    ensures semaphore { PutsSemaphore groups.old index (with_set cluster prio (semaphore_lent groups.old index)) groups.new }
+    ensures reply { result ≡ reply_to_set cluster prio (semaphore_lent groups.old index) }
+{
+    match place_of(groups, index) {
+        Some(at) => groups[at].semaphores.set_ceiling(index, cluster, prio),
+        None => unknown(),
     }
 }
 

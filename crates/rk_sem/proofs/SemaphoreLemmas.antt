@@ -6,7 +6,8 @@ use Rattle.rk_model.specs.declared.waiting.Caller.{Caller}
 use Rattle.rk_model.specs.declared.waiting.Waiter.{Waiter}
 use Rattle.rk_model.specs.Lists.{has}
 use Rattle.rk_model.specs.Queues.{Queue, threads, without, waits_in, waiter_of, entered, left_by, reordered, first_of, served_by, served_if, served}
-use Rattle.rk_model.specs.Directives.Semaphores.{owns, is_thread}
+use Rattle.rk_model.specs.Directives.Semaphores.{owns}
+use Rattle.rk_model.specs.Scheduling.Priorities.{is_one}
 use Rattle.rk_queue.proofs.QueueLemmas.{gone, still, has-entered, threads-with_prio}
 use Rattle.rk_sem.specs.declared.slot.Semaphore.{Semaphore}
 use Rattle.rk_sem.specs.SemaphoreSlots.{IsStored, stored_by}
@@ -23,7 +24,7 @@ absent_entered : (t : ℕ) (waiters : List Waiter) (waiter : Waiter) → has (th
 absent_entered t waiters waiter absent other = has-entered t waiters waiter ∙ rw (absent, other) refl
 
 -- An owner isn't a thread that doesn't own it.
-not_owner : (t u : ℕ) (owner : Option ℕ) → is_thread t owner ≡ true → is_thread u owner ≡ false → (u == t) ≡ false
+not_owner : (t u : ℕ) (owner : Option ℕ) → is_one t owner ≡ true → is_one u owner ≡ false → (u == t) ≡ false
 not_owner t u None owns_it not_it = absurd (false≢true owns_it)
 not_owner t u (Some v) owns_it not_it = grind (arith, nat_tests, owns_it, not_it)
 

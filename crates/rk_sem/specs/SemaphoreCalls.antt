@@ -7,18 +7,18 @@ use Rattle.rk_model.specs.declared.waiting.Caller.{Caller}
 use Rattle.rk_model.specs.declared.waiting.Wake.{Wake}
 use Rattle.rk_model.specs.State.{SemaphoreState}
 use Rattle.rk_model.specs.Queues.{ended}
-use Rattle.rk_model.specs.Directives.Semaphores.{Releasing, NotReleased, Unnests, Serves, Frees, is_owned, obtaining, after_obtaining, status_of_obtaining, releasing, after_releasing, status_of_releasing, status_of_deleting}
+use Rattle.rk_model.specs.Directives.Semaphores.{Releasing, NotReleased, Unnests, Serves, Frees, is_owned, obtaining, after_obtaining, status_of_obtaining, releasing, after_releasing, status_of_releasing, setting_ceiling, after_setting, reply_to_setting, status_of_deleting}
 use Rattle.rk_model.specs.Directives.Waits.{bare}
 
 -- ---- rtems_semaphore_obtain
 
 -- the semaphore after an obtain
 abbrev pub obtained : Caller → Wish → Bool → SemaphoreState → SemaphoreState
-obtained by wish closes sem = after_obtaining (obtaining by.thread wish closes sem) by sem
+obtained by wish closes sem = after_obtaining (obtaining by wish closes sem) by sem
 
 -- the answer to it
 abbrev pub reply_to_obtain : Caller → Wish → Bool → SemaphoreState → Reply
-reply_to_obtain by wish closes sem = bare (status_of_obtaining (obtaining by.thread wish closes sem))
+reply_to_obtain by wish closes sem = bare (status_of_obtaining (obtaining by wish closes sem))
 
 -- ---- rtems_semaphore_release
 
@@ -51,6 +51,16 @@ woken_by_releasing Frees = []
 -- the waits that a release ends
 abbrev pub woken_by_release : ℕ → SemaphoreState → List Wake
 woken_by_release by sem = woken_by_releasing (releasing by sem)
+
+-- ---- rtems_semaphore_set_priority
+
+-- the semaphore after a setting of its ceiling in a cluster
+abbrev pub with_set : ℕ → ℕ → SemaphoreState → SemaphoreState
+with_set c prio sem = after_setting (setting_ceiling c prio sem) c prio sem
+
+-- the answer to it
+abbrev pub reply_to_set : ℕ → ℕ → SemaphoreState → Reply
+reply_to_set c prio sem = reply_to_setting (setting_ceiling c prio sem) c sem
 
 -- ---- rtems_semaphore_flush
 

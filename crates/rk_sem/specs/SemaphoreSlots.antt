@@ -12,6 +12,7 @@ place_with sem queue =
       live = true;
       kind = sem.kind;
       protocol = sem.protocol;
+      ceilings = sem.ceilings;
       count = sem.count;
       owner = sem.owner;
       nesting = sem.nesting;

@@ -1,14 +1,16 @@
-ghost use Rattle.std.specs.Prelude.{◌≡◌, ◌≢◌, ◌<◌, [], ◌∷◌, true, false, is_some, slice_get, IfOk, IfSome};
-ghost use Rattle.rk_model.specs.declared.limits.TheConstants.{MOST_NESTING};
+ghost use Rattle.std.specs.Prelude.{◌≡◌, ◌≢◌, ◌<◌, ◌≤◌, [], ◌∷◌, true, false, is_some, slice_get, IfOk, IfSome};
+ghost use Rattle.rk_model.specs.declared.limits.TheConstants.{LEAST_URGENT, MOST_CLUSTERS, MOST_NESTING};
 ghost use Rattle.rk_model.specs.declared.status.Status.TheVariants.{Successful};
 ghost use Rattle.rk_model.specs.Lists.{has};
 ghost use Rattle.rk_model.specs.Queues.{clusters, threads, waits_in, first_of, ended, IsQueue};
 ghost use Rattle.rk_model.specs.State.{no_semaphore};
-ghost use Rattle.rk_model.specs.Directives.Semaphores.{is_binary, is_mrsp, is_free, is_full, owns, nested, taken, unnested, given_to, handed, freed, flushed, new_semaphore, after_deleting, with_prio_of};
+ghost use Rattle.std.specs.List.{slice_index_or, slice_set};
+ghost use Rattle.rk_model.specs.Scheduling.Priorities.{ceiling_in, if_some};
+ghost use Rattle.rk_model.specs.Directives.Semaphores.{has_ceiling, is_less, is_mrsp, judged, new_ceilings, with_ceiling, is_binary, is_free, is_full, owns, nested, taken, unnested, given_to, handed, freed, flushed, new_semaphore, after_deleting, with_prio_of};
 ghost use Rattle.rk_model.specs.Directives.Waits.{bare, with_waiter, without_waiter};
-ghost use Rattle.rk_sem.specs.SemaphoreCalls.{obtained, reply_to_obtain, released, reply_to_release, serves, woken_by_release, woken_by_flush, reply_to_remove, woken_by_remove};
+ghost use Rattle.rk_sem.specs.SemaphoreCalls.{obtained, reply_to_obtain, released, reply_to_release, serves, woken_by_release, woken_by_flush, reply_to_remove, woken_by_remove, reply_to_set, with_set};
 
-use rk_model::limits::{MOST_COUNT, MOST_NESTING};
+use rk_model::limits::{LEAST_URGENT, MOST_CLUSTERS, MOST_COUNT, MOST_NESTING};
 use rk_model::{
     Caller, NoMemory, Order, Prio, Protocol, Reply, SemKind, SemSpec, Status, ThreadIx, Waiter,
     Wake, Wakes, Wish,
@@ -24,6 +26,8 @@ pub(crate) struct Semaphore {
     pub(crate) kind: SemKind,
     /// Its protocol.
     pub(crate) protocol: Protocol,
+    /// Its ceilings in the clusters 0 to 3; 0 where it has none.
+    pub(crate) ceilings: [u8; MOST_CLUSTERS],
     /// Its count; 0 where it is a binary one.
     pub(crate) count: u32,
     /// The thread that owns it, if one does.
@@ -114,19 +118,94 @@ impl Slot {
     }
 
     /// Makes a semaphore there.
-    pub(crate) fn create(&mut self, spec: SemSpec, by: ThreadIx)
-        requires { self.old.live ≡ false }
+    pub(crate) fn create(&mut self, spec: SemSpec, by: Caller)
+        requires vacant { self.old.live ≡ false }
+        requires judged { judged spec by ≡ Successful }
         ensures { self.new ≡ new_semaphore spec by }
     {
         let is_owned = spec.kind.is_binary() && spec.count == 0;
         self.semaphore = Some(Semaphore {
             kind: spec.kind,
             protocol: spec.protocol,
+            ceilings: ceilings_of(spec.protocol, spec.ceiling, by.home),
             count: if spec.kind.is_binary() { 0 } else { spec.count },
-            owner: if is_owned { Some(by) } else { None },
+            owner: if is_owned { Some(by.thread) } else { None },
             nesting: if is_owned { 1 } else { 0 },
         });
         self.queue.reset(spec.order);
+    }
+
+    /// Whether it has a ceiling.
+    fn has_ceiling(&self) -> bool
+        ensures { result ≡ has_ceiling self.now.protocol }
+    {
+        self.protocol().has_ceiling()
+    }
+
+    /// Whether it is a MrsP one.
+    fn is_mrsp(&self) -> bool
+        ensures { result ≡ is_mrsp self.now.protocol }
+    {
+        self.protocol().is_mrsp()
+    }
+
+    /// Its protocol.
+    pub(crate) fn protocol(&self) -> Protocol
+        ensures { result ≡ self.now.protocol }
+    {
+        match self.semaphore {
+            None => Protocol::NoProtocol,
+            Some(semaphore) => semaphore.protocol,
+        }
+    }
+
+    /// Its ceilings in the clusters 0 to 3; 0 where it has none.
+    pub(crate) fn ceilings(&self) -> [u8; MOST_CLUSTERS]
+        ensures { result ≡ self.now.ceilings }
+    {
+        match self.semaphore {
+            None => [0; MOST_CLUSTERS],
+            Some(semaphore) => semaphore.ceilings,
+        }
+    }
+
+    /// Its ceiling in a cluster, if it has one there.
+    pub(crate) fn ceiling(&self, cluster: u8) -> Option<Prio>
+        ensures { result ≡ ceiling_in cluster self.now }
+    {
+        prio_of(level_in(self.ceilings(), cluster))
+    }
+
+    /// Sets its ceiling in a cluster, where it has one there.
+    pub(crate) fn set_ceiling(&mut self, cluster: u8, prio: u32) -> Reply
+        requires live { self.old.live ≡ true }
+        requires cluster { cluster < MOST_CLUSTERS }
+        ensures semaphore { self.new ≡ with_set cluster prio self.old }
+        ensures reply { result ≡ reply_to_set cluster prio self.old }
+    {
+        if prio > LEAST_URGENT as u32 {
+            return reply(Status::InvalidPriority);
+        }
+        if self.ceiling(cluster).is_none() {
+            return reply(Status::NotDefined);
+        }
+        let before = level_in(self.ceilings(), cluster) as u32;
+        if prio != 0 {
+            self.raise(cluster, prio as u8);
+        }
+        Reply {
+            status: Status::Successful,
+            out: before,
+        }
+    }
+
+    /// Gives it another ceiling in a cluster.
+    fn raise(&mut self, cluster: u8, level: u8)
+        requires { self.old.live ≡ true }
+        ensures { self.new ≡ with_ceiling cluster level self.old }
+    {
+        let semaphore = self.semaphore.as_mut().unwrap();
+        semaphore.ceilings = with_level(semaphore.ceilings, cluster, level);
     }
 
     /// Whether a thread owns it.
@@ -173,12 +252,18 @@ impl Slot {
         ensures semaphore { self.new ≡ obtained by wish closes self.old }
         ensures reply { result ≡ reply_to_obtain by wish closes self.old }
     {
+        if self.has_ceiling() && self.ceiling(by.home).is_none() {
+            return reply(Status::NotDefined);
+        }
         if self.is_owned_by(by.thread) {
-            if self.nesting() == MOST_NESTING {
+            if self.is_mrsp() || self.nesting() == MOST_NESTING {
                 return reply(Status::Unsatisfied);
             }
             self.nest();
             return reply(Status::Successful);
+        }
+        if is_less(by.prio, self.ceiling(by.home)) {
+            return reply(Status::InvalidPriority);
         }
         if self.is_free() {
             self.take(by.thread);
@@ -431,6 +516,61 @@ impl Slot {
         ensures { self.new ≡ with_prio_of thread prio self.old }
     {
         self.queue.reorder(thread, prio);
+    }
+}
+
+/// These ceilings with another in a cluster.
+fn with_level(ceilings: [u8; MOST_CLUSTERS], cluster: u8, level: u8) -> [u8; MOST_CLUSTERS]
+    ensures { result ≡ slice_set ceilings cluster level }
+{
+    let mut ceilings = ceilings;
+    if (cluster as usize) < ceilings.len() {
+        ceilings[cluster as usize] = level;
+    }
+    ceilings
+}
+
+/// The ceiling of a cluster among these; 0 where there is none.
+fn level_in(ceilings: [u8; MOST_CLUSTERS], cluster: u8) -> u8
+    ensures { result ≡ slice_index_or ceilings cluster 0 }
+{
+    match ceilings.get(cluster as usize) {
+        Some(level) => *level,
+        None => 0,
+    }
+}
+
+/// The priority of a level, if it is one.
+fn prio_of(level: u8) -> Option<Prio>
+    ensures { result ≡ if_some level }
+{
+    if level == 0 {
+        None
+    } else {
+        Some(Prio::new(level))
+    }
+}
+
+/// Whether a priority is less than this ceiling, if it is one.
+fn is_less(prio: Prio, ceiling: Option<Prio>) -> bool
+    ensures { result ≡ is_less prio ceiling }
+{
+    match ceiling {
+        None => false,
+        Some(ceiling) => prio.level() < ceiling.level(),
+    }
+}
+
+/// The ceilings of a semaphore that a task of this home makes with a protocol and a ceiling.
+fn ceilings_of(protocol: Protocol, ceiling: u32, home: u8) -> [u8; MOST_CLUSTERS]
+    requires { has_ceiling protocol ≡ true → ceiling ≤ LEAST_URGENT }
+    ensures { result ≡ new_ceilings protocol ceiling home }
+{
+    match protocol {
+        Protocol::NoProtocol => [0; MOST_CLUSTERS],
+        Protocol::Inherit => [0; MOST_CLUSTERS],
+        Protocol::Ceiling => with_level([0; MOST_CLUSTERS], home, ceiling as u8),
+        Protocol::Mrsp => [ceiling as u8; MOST_CLUSTERS],
     }
 }
 

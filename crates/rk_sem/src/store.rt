@@ -1,17 +1,22 @@
 ghost use Rattle.std.specs.Prelude.{◌≡◌, ◌<◌, [], true, false, is_some, slice_get, IfOk, IfSome};
 ghost use Rattle.std.specs.Borrow.{Lends, sem};
 ghost use Rattle.rk_model.specs.declared.status.Status.TheVariants.{Successful};
+ghost use Rattle.rk_model.specs.declared.limits.TheConstants.{MOST_CLUSTERS};
+ghost use Rattle.rk_model.specs.Scheduling.Priorities.{ceiling_in};
 ghost use Rattle.rk_model.specs.Lists.{has};
 ghost use Rattle.rk_model.specs.Queues.{clusters, threads, waits_in, IsQueue};
 ghost use Rattle.rk_model.specs.State.{no_semaphore};
 ghost use Rattle.rk_model.specs.Directives.Semaphores.{is_binary, is_mrsp, judged, new_semaphore, flushed, after_deleting, with_prio_of};
 ghost use Rattle.rk_model.specs.Directives.Waits.{bare, without_waiter};
 ghost use Rattle.rk_places.specs.Stores.{none_live, IsOfGroup, IsStoreOf, stored_at, put_at};
-ghost use Rattle.rk_sem.specs.SemaphoreCalls.{obtained, reply_to_obtain, released, reply_to_release, serves, woken_by_release, woken_by_flush, reply_to_remove, woken_by_remove};
+ghost use Rattle.rk_sem.specs.SemaphoreCalls.{obtained, reply_to_obtain, released, reply_to_release, serves, woken_by_release, woken_by_flush, reply_to_remove, woken_by_remove, reply_to_set, with_set};
 
 use crate::judge::judge;
 use crate::slot::Slot;
-use rk_model::{Caller, NoMemory, Order, Prio, Reply, SemSpec, Status, ThreadIx, Wakes, Wish};
+use rk_model::limits::MOST_CLUSTERS;
+use rk_model::{
+    Caller, NoMemory, Order, Prio, Protocol, Reply, SemSpec, Status, ThreadIx, Wakes, Wish,
+};
 use rk_places::{PLACES, Places};
 use std::alloc::Global;
 use std::marker::Model;
@@ -19,9 +24,6 @@ use std::marker::Model;
 /// The semaphores of a group: those whose index is its number and one more, or this and 4, 8 and so on
 /// up to 60 more. Contracts see the number and a place for each index from 1 to 64, of which those
 /// of other groups have no semaphore.
-///
-/// What a protocol raises isn't kept here, and a ceiling isn't yet: each call treats a semaphore as one
-/// without a protocol.
 #[derive(Debug, Drop)]
 pub struct SemStore {
     places: Places<Slot>,
@@ -130,16 +132,18 @@ impl SemStore {
         requires vacant { (stored_at no_semaphore self.old index).live ≡ false }
         requires judged { judged spec by ≡ Successful }
         requires kept { is_mrsp spec.protocol ≡ false }
-        ensures { self.new ≡ put_at self.old index (new_semaphore spec by.thread) }
+        ensures { self.new ≡ put_at self.old index (new_semaphore spec by) }
     {
-        self.slot_mut(index).create(spec, by.thread);
+        self.slot_mut(index).create(spec, by);
     }
 
     /// Obtains a semaphore (`rtems_semaphore_obtain`), where `closes` says whether the chain of its
     /// owner reaches the caller. The first of these cases that holds decides.
     ///
+    /// - `NotDefined`: it is a ceiling semaphore of another cluster than the caller's home.
     /// - The caller owns it: its nesting rises by one, and the status is `Successful`. A nesting of
     ///   18,446,744,073,709,551,615 can't rise, and the status is `Unsatisfied`.
+    /// - `InvalidPriority`: it has a ceiling in the caller's home, and the caller's priority is less.
     /// - It is free, so it is a binary one without owner, or another whose count is above 0: the caller
     ///   owns a binary one then, with nesting 1, and the count of another falls by one. The status is
     ///   `Successful`.
@@ -154,6 +158,50 @@ impl SemStore {
         ensures reply { result ≡ reply_to_obtain by wish closes (stored_at no_semaphore self.old index) }
     {
         self.slot_mut(index).obtain(by, wish, closes)
+    }
+
+    /// The protocol of a semaphore.
+    pub fn protocol(&self, index: u16) -> Protocol
+        requires { IsOfGroup self.now.group index }
+        ensures { result ≡ (stored_at no_semaphore self.now index).protocol }
+    {
+        self.slot(index).protocol()
+    }
+
+    /// The ceilings of a semaphore in the clusters 0 to 3; 0 where it has none.
+    pub fn ceilings(&self, index: u16) -> [u8; MOST_CLUSTERS]
+        requires { IsOfGroup self.now.group index }
+        ensures { result ≡ (stored_at no_semaphore self.now index).ceilings }
+    {
+        self.slot(index).ceilings()
+    }
+
+    /// The ceiling of a semaphore in a cluster; `None` exactly where it has none there. A ceiling
+    /// semaphore has one in the cluster to which it belongs alone.
+    pub fn ceiling(&self, index: u16, cluster: u8) -> Option<Prio>
+        requires { IsOfGroup self.now.group index }
+        ensures { result ≡ ceiling_in cluster (stored_at no_semaphore self.now index) }
+    {
+        self.slot(index).ceiling(cluster)
+    }
+
+    /// Sets the ceiling of a semaphore in a cluster (`rtems_semaphore_set_priority`). The first of these
+    /// cases that holds decides.
+    ///
+    /// - `InvalidPriority`: the priority is above 255.
+    /// - `NotDefined`: it has no ceiling in the cluster.
+    /// - The priority is 0: nothing changes.
+    /// - Otherwise its ceiling in the cluster is set.
+    ///
+    /// Where it isn't refused, the ceiling there before is answered.
+    pub fn set_ceiling(&mut self, index: u16, cluster: u8, prio: u32) -> Reply
+        requires place { IsOfGroup self.old.group index }
+        requires live { (stored_at no_semaphore self.old index).live ≡ true }
+        requires cluster { cluster < MOST_CLUSTERS }
+        ensures semaphore { self.new ≡ put_at self.old index (with_set cluster prio (stored_at no_semaphore self.old index)) }
+        ensures reply { result ≡ reply_to_set cluster prio (stored_at no_semaphore self.old index) }
+    {
+        self.slot_mut(index).set_ceiling(cluster, prio)
     }
 
     /// The order in which the queue of a semaphore serves.
