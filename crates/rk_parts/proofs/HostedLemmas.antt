@@ -10,7 +10,7 @@ use Rattle.rk_model.specs.declared.state.Wait.{Wait}
 use Rattle.rk_model.specs.declared.state.Wait.TheVariants.{ForTime, ForEvents, AtBarrier, ForPeriod, ForSemaphore}
 use Rattle.rk_model.specs.Lists.{nth}
 use Rattle.rk_model.specs.Names.{Table}
-use Rattle.rk_model.specs.State.{no_thread}
+use Rattle.rk_model.specs.State.{SemaphoreState, no_semaphore, no_thread}
 use Rattle.rk_model.specs.Scheduling.Chains.{owner_awaited, waits_on}
 use Rattle.rk_model.specs.Scheduling.Helping.{Scene, offer_of, helped_by, helped_in, scene, helped, could_run}
 use Rattle.rk_model.specs.Scheduling.Priorities.{is_spinning, is_eligible}
@@ -20,11 +20,12 @@ use Rattle.rk_model.proofs.HelpingLemmas.{helped_says, offer_says}
 use Rattle.rk_mrsp.specs.declared.chains.Link.{Link}
 use Rattle.rk_mrsp.specs.Scenes.{no_link, link_of, cpu_in, scene_in, hosts_of}
 use Rattle.rk_mrsp.proofs.ScanLemmas.{hosts_say}
+use Rattle.rk_parts.specs.declared.holdings.Holding.{Holding}
 use Rattle.rk_parts.specs.declared.parts.ClusterPart.{ClusterPart}
 use Rattle.rk_groups.specs.declared.group.GroupPart.{GroupPart}
 use Rattle.rk_groups.specs.GroupObjects.{semaphores_of}
-use Rattle.rk_parts.specs.HeldChains.{holder_awaited, waits_on_holder}
-use Rattle.rk_parts.specs.Holdings.{AreHeld, holdings}
+use Rattle.rk_parts.specs.HeldChains.{holder_awaited, owner_of, waits_on_holder}
+use Rattle.rk_parts.specs.Holdings.{AreHeld, held_by, holding_of, holdings}
 use Rattle.rk_parts.specs.Hosted.{could_run as could_run_by, link_lent, scene_lent, hosted_in, AreHosted, ShowRunning, spins_at, spins_below, has_spinner}
 use Rattle.rk_parts.specs.Joined.{joined, threads_of, thread_lent}
 use Rattle.rk_parts.specs.Lent.{AreLaid, layouts, Stored, stored}
@@ -38,8 +39,15 @@ use Rattle.rk_model.proofs.BooleanLemmas.{or_front, or_back}
 
 -- ---- the scene of parts is that of their state
 
+-- the owner of a semaphore that is held as it says is its own
+pub owner_held : (sem : SemaphoreState) → owner_of (holding_of sem) ≡ sem.owner
+owner_held sem = by sem.owner where
+  by : (owner : Option ℕ) → owner_of (held_by sem owner) ≡ owner
+  by None = refl
+  by (Some t) = refl
+
 -- where each semaphore is held by its owner, threads wait on holders as they wait on owners
-steps_held : (s : Scenario) (table : Table) (groups : List GroupPart) (parts : List ClusterPart) → AreHeld (holdings parts) (semaphores_of groups) → waits_on_holder parts ≡ waits_on (joined s table parts groups)
+pub steps_held : (s : Scenario) (table : Table) (groups : List GroupPart) (parts : List ClusterPart) → AreHeld (holdings parts) (semaphores_of groups) → waits_on_holder parts ≡ waits_on (joined s table parts groups)
 steps_held s table groups parts held = λ n t. by (thread_lent parts t).wait n where
   by : (wait : Option Wait) → holder_awaited (holdings parts) wait ≡ owner_awaited (semaphores_of groups) wait
   by None = refl
@@ -47,7 +55,7 @@ steps_held s table groups parts held = λ n t. by (thread_lent parts t).wait n w
   by (Some (ForEvents set all)) = refl
   by (Some (AtBarrier i)) = refl
   by (Some (ForPeriod i)) = refl
-  by (Some (ForSemaphore i spins)) = held i
+  by (Some (ForSemaphore i spins)) = ap owner_of (held i) ∙ owner_held (nth no_semaphore (semaphores_of groups) i)
 
 ready_joined : (s : Scenario) (table : Table) (groups : List GroupPart) (parts : List ClusterPart) (t : ℕ) → could_run_by (thread_lent parts t) ≡ could_run (joined s table parts groups) t
 unfolding could_run is_eligible
@@ -75,7 +83,7 @@ viewed s table groups parts p show =
 -- ---- parts that have the same threads, holdings and processors
 
 -- the scene of such parts
-abbrev scene_by : List Thread → List (List (Option ℕ)) → (ℕ → Option ℕ) → Scene
+abbrev scene_by : List Thread → List (List (Option Holding)) → (ℕ → Option ℕ) → Scene
 scene_by threads held seats = record {
   threads = length threads;
   on = λ t. holder_awaited held (nth no_thread threads t).wait;
@@ -132,7 +140,7 @@ pub scene_bare : (old new : List ClusterPart) → map bare new ≡ map bare old 
 scene_bare old new same =
     scene_same old new
     (sym (threads_mapped bare leaves new) ∙ ap threads_of same ∙ threads_mapped bare leaves old)
-    (sym (mapped_kept (λ (p : ClusterPart). p.holdings) bare (λ p. refl) new) ∙ ap holdings same ∙ mapped_kept (λ (p : ClusterPart). p.holdings) bare (λ p. refl) old)
+    (sym (mapped_kept (λ (p : ClusterPart). p.holdings.owners) bare (λ p. refl) new) ∙ ap holdings same ∙ mapped_kept (λ (p : ClusterPart). p.holdings.owners) bare (λ p. refl) old)
     (seats_bare old new same)
 
 pub length_bare : (old new : List ClusterPart) → map bare new ≡ map bare old → length new ≡ length old
@@ -259,4 +267,4 @@ hosted_tick n parts hosted = λ p. host_tick n parts p ∙ hosted p ∙ ap (λ (
   seats = λ i p. seat_tick n parts p i
 
   same : scene_lent (map (at_tick n) parts) ≡ scene_lent parts
-  same = scene_same parts (map (at_tick n) parts) (threads_mapped (at_tick n) (tick_leaves n) parts) (mapped_kept (λ (p : ClusterPart). p.holdings) (at_tick n) (λ p. refl) parts) seats
+  same = scene_same parts (map (at_tick n) parts) (threads_mapped (at_tick n) (tick_leaves n) parts) (mapped_kept (λ (p : ClusterPart). p.holdings.owners) (at_tick n) (λ p. refl) parts) seats

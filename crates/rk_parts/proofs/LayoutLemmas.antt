@@ -12,7 +12,8 @@ use Rattle.rk_model.specs.Text.Scenarios.{cpus_in}
 use Rattle.rk_parts.specs.declared.parts.ClusterPart.{ClusterPart}
 use Rattle.rk_parts.specs.Holdings.{holdings}
 use Rattle.rk_parts.specs.Joined.{placed_in, lives_in}
-use Rattle.rk_parts.specs.Lent.{outline, Layout, layout, layouts, layout_at, lives_at, AreLaid, stored_in, stored}
+use Rattle.rk_parts.specs.Lent.{outline, Layout, layout, layouts, layout_at, lives_at, AreLaid, stored_in, stored, account_in, accounts}
+use Rattle.rk_parts.specs.Held.{Held}
 use Rattle.rk_parts.specs.Noted.{no_part, part_at}
 
 -- ---- outlines
@@ -124,7 +125,10 @@ pub stored_same : (parts : List ClusterPart) (at : ℕ) (part : ClusterPart) →
 stored_same parts at part same = map-set_same stored_in parts at part no_part same
 
 pub holdings_same : (parts : List ClusterPart) (at : ℕ) (part : ClusterPart) → part.holdings ≡ (part_at parts at).holdings → holdings (set parts at part) ≡ holdings parts
-holdings_same parts at part same = map-set_same (λ (p : ClusterPart). p.holdings) parts at part no_part same
+holdings_same parts at part same = map-set_same (λ (p : ClusterPart). p.holdings.owners) parts at part no_part (ap (λ (h : Held). h.owners) same)
+
+pub accounts_same : (parts : List ClusterPart) (at : ℕ) (part : ClusterPart) → account_in part ≡ account_in (part_at parts at) → accounts (set parts at part) ≡ accounts parts
+accounts_same parts at part same = map-set_same account_in parts at part no_part same
 
 outlines_set : (xs : List Thread) (t : ℕ) (x : Thread) → outline x ≡ outline (nth no_thread xs t) → map outline (with_nth xs t x) ≡ map outline xs
 outlines_set xs zero x e = refl

@@ -20,7 +20,7 @@ use Rattle.rk_parts.specs.Noted.{part_at}
 use Rattle.rk_groups.proofs.ListedLemmas.{get_or-listed, same_listed, set-listed}
 use Rattle.rk_groups.proofs.FoundLemmas.{found_here, found_later, found_nowhere}
 use Rattle.rk_parts.proofs.HeldLemmas.{held_else, held_found, found_lives, found_within, lives_found}
-use Rattle.rk_parts.proofs.LayoutLemmas.{Lie, lie, layouts_same, stored_same, holdings_same}
+use Rattle.rk_parts.proofs.LayoutLemmas.{Lie, lie, layouts_same, stored_same, accounts_same, holdings_same}
 use Rattle.rk_parts.proofs.PutLemmas.{clusters_joined, present_same, part_is, thread_held}
 use Rattle.rk_parts.proofs.ReplaceLemmas.{number_is, number_within}
 
@@ -120,7 +120,8 @@ retimed_kept : (parts : List ClusterPart) (at : ℕ) (timers : List Armed) → f
 retimed_kept parts at timers =
     let lies = layouts_same parts at (retimed (part_at parts at) timers) refl in
     let keeps = stored_same parts at (retimed (part_at parts at) timers) refl in
-    λ i. record { layouts = lies i; stored = keeps i }
+    let accounts = accounts_same parts at (retimed (part_at parts at) timers) refl in
+    λ i. record { layouts = lies i; stored = keeps i; accounts = accounts i }
 
 -- the parts as the code has them
 pub as_retimed : (parts : List ClusterPart) (at : ℕ) (part : ClusterPart) (timers : List Armed) (change : List Armed → List Armed) → at < length parts → timers ≡ change (get_or parts at part).timers →

@@ -12,10 +12,15 @@ pub mod KeyedLineLemmas
 pub mod MappedPartLemmas
 pub mod HoldingLemmas
 pub mod TickPartLemmas
+pub mod ContributionLemmas
+pub mod ContributingLemmas
 pub mod SettledPartLemmas
+pub mod PriorityLemmas
 pub mod WholeLemmas
 pub mod ClusterRegisterLemmas
 pub mod RegisterFillLemmas
 pub mod GroupJoinedLemmas
 pub mod HostedLemmas
 pub mod NotedHostLemmas
+pub mod AccountLemmas
+pub mod AloneLemmas

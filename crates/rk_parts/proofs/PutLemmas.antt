@@ -1,12 +1,11 @@
 -- To put a thread in its place of the lent parts is to put it in the state that they stand for.
-use Rattle.std.proofs.Common.{◌≡◌, ℕ, zero, suc, ◌+◌, ◌<◌, ◌≤◌, List, [], ◌∷◌, Bool, true, false, cond, ◌==◌, Option, Some, None, length, map, subst, arith, refl, sym, ap, ◌∙◌, get_or, set, ⊎_elim}
+use Rattle.std.proofs.Common.{◌≡◌, ℕ, zero, suc, ◌+◌, ◌<◌, ◌≤◌, List, [], ◌∷◌, Bool, true, false, cond, ◌==◌, Option, Some, None, length, subst, arith, refl, sym, ap, ◌∙◌, get_or, set, ⊎_elim, length-set}
 use Rattle.std.specs.Prelude.{IsSome}
 use Rattle.std.specs.Bool.{if◌then◌else◌}
 use Rattle.std.proofs.lemmas.Bool.{false≢true, cases_lt}
 use Rattle.std.proofs.lemmas.Bool.Decides.{nat_tests}
 use Rattle.std.proofs.lemmas.List.{get_or-set_same, get_or-set_other, get_or_past}
 use Rattle.rk_model.specs.declared.scenario.Scenario.{Scenario}
-use Rattle.std.proofs.Math.Seq.{map-set_same}
 use Rattle.rk_model.specs.declared.settling.Standing.{Standing}
 use Rattle.rk_line.specs.declared.line.Place.{Place}
 use Rattle.rk_model.specs.declared.state.Thread.{Thread}
@@ -14,16 +13,22 @@ use Rattle.rk_model.specs.Lists.{nth, with_nth}
 use Rattle.rk_model.specs.Names.{Table}
 use Rattle.rk_model.specs.State.{Plain, ClusterState, no_thread, put_thread}
 use Rattle.rk_model.specs.Directives.Objects.{has_begun}
-use Rattle.rk_model.proofs.IndexLemmas.{nth-with_other, nth-with_same}
+use Rattle.rk_model.proofs.IndexLemmas.{nth-with_other, nth-with_same, nth-with_kept, length-with_nth}
 use Rattle.rk_parts.specs.declared.parts.ClusterPart.{ClusterPart}
 use Rattle.rk_groups.specs.declared.group.GroupPart.{GroupPart}
 use Rattle.rk_parts.specs.Joined.{cluster_of, placed_in, lives_in, held, numbered, present_of, threads_of, clusters_of, clusters_by, joined, thread_lent}
 use Rattle.rk_parts.specs.Lent.{found_in, Puts, layouts, stored}
-use Rattle.rk_parts.specs.Threads.{Threads, own_standing}
-use Rattle.rk_parts.specs.Noted.{part_at, no_part, standings_in, key_of, IsKeyed, AreNoted}
+use Rattle.rk_agg.specs.Shares.{found, Shares}
+use Rattle.rk_parts.specs.declared.bearing.Bearing.{Bearing}
+use Rattle.rk_parts.specs.declared.holdings.Holding.{Holding}
+use Rattle.rk_parts.specs.Contributions.{bears, contributed}
+use Rattle.rk_parts.specs.Holdings.{holder, holdings}
+use Rattle.rk_parts.specs.Threads.{Threads, bearing, bearing_at, bearings_by, stands_by, standing_at, standings_by}
+use Rattle.rk_groups.specs.GroupObjects.{listed}
+use Rattle.rk_parts.specs.Noted.{part_at, no_part, bearings_in, standings_in, key_of, IsKeyed, AreLent, AreNoted}
 use Rattle.rk_groups.proofs.ListedLemmas.{get_or-listed, length-listed, same_listed, set-listed}
 use Rattle.rk_parts.proofs.HeldLemmas.{held_found, held_else, held_put, held_nowhere, found_lives, found_within}
-use Rattle.rk_parts.proofs.LayoutLemmas.{layout_put, layouts_same, stored_same, holdings_same, outline_same}
+use Rattle.rk_parts.proofs.LayoutLemmas.{layout_put, layouts_same, stored_same, holdings_same, accounts_same, outline_same}
 
 -- a thread that lives is one of these
 pub lives_within : (threads : List Thread) (u : ℕ) → has_begun (nth no_thread threads u).life ≡ true → (0 < u) × (u ≤ length threads)
@@ -142,7 +147,7 @@ put_puts parts at t x low high found lives life home =
       threads = threads_put parts (set parts at now) t x low (held_with parts at t x here);
       clusters = λ i counts. clusters_same counts parts (set parts at now) (λ c. numbered_same counts parts at c now refl refl) i;
       present = present_same parts at now refl;
-      kept = λ i. record { layouts = lies i; stored = keeps i };
+      kept = λ i. record { layouts = lies i; stored = keeps i; accounts = accounts_same parts at now refl i };
       held = holdings_same parts at now refl;
     }
 
@@ -160,9 +165,38 @@ part_kept f parts at i part within e = ap f (part_set parts at i part within) �
   by true q = let same : i ≡ at = grind (arith, nat_tests, q) in e ∙ ap (λ j. f (part_at parts j)) (sym same)
   by false q = refl
 
-standings_set : (xs : List Thread) (t : ℕ) (x : Thread) → own_standing x ≡ own_standing (nth no_thread xs t) → map own_standing (with_nth xs t x) ≡ map own_standing xs
-standings_set xs zero x e = refl
-standings_set xs (suc i) x e = map-set_same own_standing xs i x no_thread e
+-- a thread that bears what the one before it bore leaves all standings, and all that is borne
+standings_set : (shares : Shares) (xs : List Thread) (t : ℕ) (x : Thread) → bearing x ≡ bearing (nth no_thread xs t) → standings_by shares (with_nth xs t x) ≡ standings_by shares xs
+unfolding standings_by
+standings_set shares xs t x e =
+    ap (λ n. listed (standing_at shares (with_nth xs t x)) 1 n) (length-with_nth x xs t)
+    ∙ same_listed (standing_at shares (with_nth xs t x)) (standing_at shares xs) 1 (length xs) (λ u. ap (stands_by shares u) (nth-with_kept bearing no_thread x xs t u e))
+
+bearings_set : (xs : List Thread) (t : ℕ) (x : Thread) → bearing x ≡ bearing (nth no_thread xs t) → bearings_by (with_nth xs t x) ≡ bearings_by xs
+unfolding bearings_by
+bearings_set xs t x e =
+    ap (λ n. listed (bearing_at (with_nth xs t x)) 1 n) (length-with_nth x xs t)
+    ∙ same_listed (bearing_at (with_nth xs t x)) (bearing_at xs) 1 (length xs) (λ u. nth-with_kept bearing no_thread x xs t u e)
+
+-- what a part tells of contributions
+pub record Told : Type 0 where
+  pub number : ℕ
+  pub shares : Shares
+
+abbrev pub told_in : ClusterPart → Told
+told_in part = record { number = part.lined.number; shares = part.threads.shares }
+
+-- parts that tell the same have the contributions of threads that bear the same, where semaphores are held alike
+pub lent_alike : (bear bear' : ℕ → Bearing) (hold hold' : ℕ → Option Holding) (old new : List ClusterPart) → length new ≡ length old → ((at : ℕ) → told_in (part_at new at) ≡ told_in (part_at old at)) → bear' ≡ bear → hold' ≡ hold → AreLent bear hold old → AreLent bear' hold' new
+lent_alike bear bear' hold hold' old new size told bears holds lent = record {
+  own = λ at t u less one other.
+      ap (λ (x : Told). found x.shares t x.number u) (told at)
+      ∙ lent.own at t u (rw size at less) one other
+      ∙ ap (λ (x : Told). contributed bear hold t x.number u) (sym (told at))
+      ∙ ap (λ f. contributed f hold t (part_at new at).lined.number u) (sym bears)
+      ∙ ap (λ f. contributed bear' f t (part_at new at).lined.number u) (sym holds);
+  elsewhere = λ at t d u less other. ap (λ (x : Told). found x.shares t d u) (told at) ∙ lent.elsewhere at t d u (rw size at less) (λ q. other (q ∙ ap (λ (x : Told). x.number) (sym (told at))));
+}
 
 -- a ready queue and the standings by which it is ranked
 pub record Ranked : Type 0 where
@@ -172,15 +206,27 @@ pub record Ranked : Type 0 where
 abbrev pub keys_in : ClusterPart → Ranked
 keys_in part = record { stood = part.threads.stood; line = part.lined.line }
 
--- to put a thread that stands as the one before it leaves all noted
-pub noted_put : (count : ℕ) (parts : List ClusterPart) (at t : ℕ) (x : Thread) → 1 ≤ t → t ≤ 64 → found_in parts t ≡ Some at → own_standing x ≡ own_standing (thread_lent parts t) → AreNoted count parts → AreNoted count (set parts at (with_thread (part_at parts at) t x))
+-- to put a thread that bears what the one before it bore leaves all noted
+pub noted_put : (count : ℕ) (parts : List ClusterPart) (at t : ℕ) (x : Thread) → 1 ≤ t → t ≤ 64 → found_in parts t ≡ Some at → bearing x ≡ bearing (thread_lent parts t) → AreNoted count parts → AreNoted count (set parts at (with_thread (part_at parts at) t x))
 noted_put count parts at t x low high found same noted =
     let part = part_at parts at in
     let now = with_thread part t x in
     let within = found_within parts at t found in
-    let stands : standings_in now ≡ standings_in part = standings_set part.threads.places t x (same ∙ ap own_standing (thread_held parts t low high ∙ held_found parts at t found)) in
+    let place : thread_lent parts t ≡ placed_in part t = thread_held parts t low high ∙ held_found parts at t found in
+    let bear : bearing x ≡ bearing (placed_in part t) = same ∙ ap bearing place in
+    let stands : standings_in now ≡ standings_in part = standings_set part.threads.shares part.threads.places t x bear in
+    let bore : bearings_in now ≡ bearings_in part = bearings_set part.threads.places t x bear in
+    let lives : has_begun (placed_in now t).life ≡ true = ap (λ (y : Thread). has_begun y.life) (placed_same part t x low (lives_size part t (found_lives parts at t found))) ∙ ap (λ (b : Bearing). has_begun b.life) bear ∙ found_lives parts at t found in
+    let here : held (set parts at now) t ≡ x = held_put parts at t now found lives ∙ placed_same part t x low (lives_size part t (found_lives parts at t found)) in
+    let threads = threads_put parts (set parts at now) t x low (held_with parts at t x here) in
     record {
       stood = λ i. part_kept (λ (p : ClusterPart). p.threads.stood) parts at i now within refl ∙ noted.stood i ∙ sym (part_kept standings_in parts at i now within stands);
+      borne = λ i. part_kept (λ (p : ClusterPart). p.threads.borne) parts at i now within refl ∙ noted.borne i ∙ sym (part_kept bearings_in parts at i now within bore);
+      held = λ i. part_kept (λ (p : ClusterPart). p.holdings.noted) parts at i now within refl ∙ noted.held i ∙ sym (part_kept (λ (p : ClusterPart). p.holdings.owners) parts at i now within refl);
+      shares = lent_alike (bears parts) (bears (set parts at now)) (holder (holdings parts)) (holder (holdings (set parts at now))) parts (set parts at now) (length-set parts at now) (λ i. part_kept told_in parts at i now within refl)
+          (λ i u. (ap (λ (ts : List Thread). bearing (nth no_thread ts u)) threads ∙ nth-with_kept bearing no_thread x (threads_of parts) t u same) i)
+          (λ i. holder (holdings_same parts at now refl i))
+          noted.shares;
       keyed = λ i known. subst (λ (k : Ranked). IsKeyed (key_of k.stood) k.line) (sym (part_kept keys_in parts at i now within refl)) (noted.keyed i (rw (part_kept (λ (p : ClusterPart). p.lined.number) parts at i now within refl) at known));
     }
 

@@ -1,5 +1,5 @@
 -- A register of a cluster as it is written, one thread that may have a change after another.
-use Rattle.std.proofs.Common.{◌≡◌, ℕ, ◌+◌, ◌<◌, List, [], ◌∷◌, ◌++◌, Bool, true, false, cond, not, ◌==◌, ◌&&◌, ◌||◌, nat_lt, ◌⊎◌, inl, inr, ⊎_elim, Option, Some, None, length, map, drop, get_or, arith, refl, ap, sym, ◌∙◌, subst}
+use Rattle.std.proofs.Common.{◌≡◌, ℕ, ◌+◌, ◌<◌, List, [], ◌∷◌, ◌++◌, Bool, true, false, cond, not, ◌==◌, ◌&&◌, ◌||◌, nat_lt, ◌⊎◌, inl, inr, ⊎_elim, Option, Some, None, length, drop, get_or, arith, refl, ap, sym, ◌∙◌, subst}
 use Rattle.std.specs.Option.{option_to_list}
 use Rattle.std.proofs.lemmas.Bool.{false≢true}
 use Rattle.std.proofs.lemmas.Bool.Decides.{nat_tests}
@@ -12,17 +12,19 @@ use Rattle.rk_model.specs.declared.state.Life.TheVariants.{Absent, Dormant, Star
 use Rattle.rk_model.specs.Lists.{has, nth}
 use Rattle.rk_model.specs.State.{no_thread}
 use Rattle.rk_model.specs.Directives.Objects.{has_begun}
-use Rattle.rk_model.specs.Scheduling.Priorities.{is_started, is_no_wait, is_spinning, nth_standing}
+use Rattle.rk_model.specs.Scheduling.Priorities.{is_started, is_no_wait, is_spinning, no_standing, nth_standing}
 use Rattle.rk_model.specs.Scheduling.Settling.{belongs, shifts, shift_of}
 use Rattle.rk_model.proofs.CountLemmas.{has-append}
 use Rattle.rk_cluster.specs.declared.moves.Change.{Change}
 use Rattle.rk_cluster.specs.Registers.{no_changes, with_change}
 use Rattle.rk_parts.specs.ClusterRegisters.{change_by, register}
 use Rattle.rk_parts.specs.Noted.{one_lives}
-use Rattle.rk_parts.specs.Threads.{is_ready, own_standing, StandAsNoted}
-use Rattle.rk_parts.proofs.StandingLemmas.{standing_of}
+use Rattle.rk_parts.specs.declared.bearing.Bearing.{Bearing}
+use Rattle.rk_parts.specs.Threads.{bearing_at, is_ready, standing_at, standings_by, AsNoted}
+use Rattle.rk_parts.proofs.StandingLemmas.{standings_say_at}
+use Rattle.rk_agg.specs.Shares.{Shares}
 
-not_ready : (x : Thread) → has_begun x.life ≡ false → is_ready x ≡ false
+pub not_ready : (x : Bearing) → has_begun x.life ≡ false → is_ready x ≡ false
 not_ready x dead = by x.life dead where
   by : (life : Life) → has_begun life ≡ false → (is_started life && not x.suspended && (is_no_wait x.wait || is_spinning x.wait)) ≡ false
   by Absent h = refl
@@ -48,11 +50,11 @@ or_second true b h = let no : ⊥ = cc in absurd no
 or_second false b h = h
 
 -- the register says of a thread that isn't marked and doesn't go last that nothing changes
-unmarked_none : (marked last : List ℕ) (stood : List Standing) (places : List Thread) (c t : ℕ) → StandAsNoted marked stood places → has (marked ++ last) t ≡ false → register stood (map own_standing places) last c t ≡ None
+unmarked_none : (marked last : List ℕ) (stood now : List Standing) (c t : ℕ) → AsNoted no_standing marked stood now → has (marked ++ last) t ≡ false → register stood now last c t ≡ None
 unfolding shifts
-unmarked_none marked last stood places c t noted none =
+unmarked_none marked last stood now c t noted none =
     let apart : (has marked t || has last t) ≡ false = sym (has-append marked last t) ∙ none in
-    let same : nth_standing (map own_standing places) t ≡ nth_standing stood t = standing_of places t ∙ noted t (or_first _ _ apart) in
+    let same : nth_standing now t ≡ nth_standing stood t = noted t (or_first _ _ apart) in
     rw (same, or_second (has marked t) (has last t) apart) (still_none c (nth_standing stood t))
 
 -- A register as far as it is written: only threads that are left may lack their change.
@@ -60,9 +62,9 @@ pub record IsFilling (whole : ℕ → Option Change) (left : List ℕ) (out : �
   pub so_far : (t : ℕ) → has left t ≡ false → out t ≡ whole t
   pub part : (t : ℕ) → (out t ≡ None) ⊎ (out t ≡ whole t)
 
-pub fill_none : (marked last : List ℕ) (stood : List Standing) (places : List Thread) (c : ℕ) (out : ℕ → Option Change) → StandAsNoted marked stood places → ((t : ℕ) → out t ≡ None) → IsFilling (register stood (map own_standing places) last c) (marked ++ last) out
-fill_none marked last stood places c out noted none = record {
-  so_far = λ t h. none t ∙ sym (unmarked_none marked last stood places c t noted h);
+pub fill_none : (marked last : List ℕ) (stood now : List Standing) (c : ℕ) (out : ℕ → Option Change) → AsNoted no_standing marked stood now → ((t : ℕ) → out t ≡ None) → IsFilling (register stood now last c) (marked ++ last) out
+fill_none marked last stood now c out noted none = record {
+  so_far = λ t h. none t ∙ sym (unmarked_none marked last stood now c t noted h);
   part = λ t. inl (none t);
 }
 
@@ -110,18 +112,18 @@ fill_behind whole left last rest out none same is = subst (λ us. IsFilling whol
 -- ---- where nobody is marked
 
 -- a thread that lives in another part has no change
-away_none : (stood : List Standing) (places : List Thread) (last : List ℕ) (c t : ℕ) → nth_standing stood t ≡ own_standing (nth no_thread places t) → has_begun (nth no_thread places t).life ≡ false → register stood (map own_standing places) last c t ≡ None
+away_none : (stood : List Standing) (shares : Shares) (places : List Thread) (last : List ℕ) (c t : ℕ) → nth_standing stood t ≡ standing_at shares places t → has_begun (nth no_thread places t).life ≡ false → register stood (standings_by shares places) last c t ≡ None
 unfolding shifts shift_of
-away_none stood places last c t same dead =
-    let now : nth_standing (map own_standing places) t ≡ own_standing (nth no_thread places t) = standing_of places t in
-    rw (same, now, not_ready (nth no_thread places t) dead) refl
+away_none stood shares places last c t same dead =
+    let now : nth_standing (standings_by shares places) t ≡ standing_at shares places t = standings_say_at shares places t in
+    rw (same, now, not_ready (bearing_at places t) dead) refl
 
 -- where nobody is marked, and the one that goes last lives elsewhere, nothing changes
-pub nobody_changes : (marked : List ℕ) (stood : List Standing) (places : List Thread) (last : Option ℕ) (c : ℕ) → marked ≡ [] → StandAsNoted marked stood places → one_lives places last ≡ false → register stood (map own_standing places) (option_to_list last) c ≡ no_changes
-nobody_changes marked stood places None c none noted elsewhere = λ i t. unmarked_none marked [] stood places c t noted (rw none refl) i
-nobody_changes marked stood places (Some u) c none noted elsewhere = λ i t. by t (u == t) refl i where
-  by : (t : ℕ) (b : Bool) → (u == t) ≡ b → register stood (map own_standing places) (u ∷ []) c t ≡ None
+pub nobody_changes : (marked : List ℕ) (stood : List Standing) (shares : Shares) (places : List Thread) (last : Option ℕ) (c : ℕ) → marked ≡ [] → AsNoted no_standing marked stood (standings_by shares places) → one_lives places last ≡ false → register stood (standings_by shares places) (option_to_list last) c ≡ no_changes
+nobody_changes marked stood shares places None c none noted elsewhere = λ i t. unmarked_none marked [] stood (standings_by shares places) c t noted (rw none refl) i
+nobody_changes marked stood shares places (Some u) c none noted elsewhere = λ i t. by t (u == t) refl i where
+  by : (t : ℕ) (b : Bool) → (u == t) ≡ b → register stood (standings_by shares places) (u ∷ []) c t ≡ None
   by t true e =
       let same : u ≡ t = grind (arith, nat_tests, e) in
-      away_none stood places (u ∷ []) c t (sym (noted t (rw none refl))) (ap (λ v. has_begun (nth no_thread places v).life) (sym same) ∙ elsewhere)
-  by t false e = unmarked_none marked (u ∷ []) stood places c t noted (rw (none, e) refl)
+      away_none stood shares places (u ∷ []) c t (sym (noted t (rw none refl)) ∙ standings_say_at shares places t) (ap (λ v. has_begun (nth no_thread places v).life) (sym same) ∙ elsewhere)
+  by t false e = unmarked_none marked (u ∷ []) stood (standings_by shares places) c t noted (rw (none, e) refl)

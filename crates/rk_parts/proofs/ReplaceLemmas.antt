@@ -14,7 +14,7 @@ use Rattle.rk_parts.specs.Lent.{found_in, number_in, Replaces}
 use Rattle.rk_parts.specs.Noted.{part_at}
 use Rattle.rk_groups.proofs.FoundLemmas.{found_here, found_later}
 use Rattle.rk_parts.proofs.HeldLemmas.{held_made, held_nowhere, found_lives, found_within, nowhere_lives, lives_nowhere, dead_nowhere}
-use Rattle.rk_parts.proofs.LayoutLemmas.{Lie, lie, laid, stored_same, holdings_same}
+use Rattle.rk_parts.proofs.LayoutLemmas.{Lie, lie, laid, stored_same, accounts_same, holdings_same}
 use Rattle.rk_parts.proofs.PutLemmas.{with_thread, placed_other, placed_same, thread_held, state_put, lives_size, part_set, part_kept}
 
 -- the part of a cluster's number
@@ -135,6 +135,7 @@ made parts at t x low high absent life found =
           state_put s table groups parts at t x low (held_made parts at t (with_thread (part_at parts at) t x) none within (ap (λ (y : Thread). has_begun y.life) new ∙ life) ∙ new));
       laid = λ counts lies known. laid counts _ (lie_replaced counts parts at t x suits (lie counts parts lies) known);
       kept = stored_same parts at _ refl;
+      accounts = accounts_same parts at _ refl;
       held = holdings_same parts at _ refl;
     }
 
@@ -153,6 +154,7 @@ removed parts at t low high found =
           let is = lie counts parts lies in
           laid counts _ (lie_replaced counts parts at t no_thread (record { within = within; low = low; high = high; alone = λ j e. alone j e lives is.once; home = λ h. absurd (false≢true h); blank = λ h. refl }) is known));
       kept = stored_same parts at _ refl;
+      accounts = accounts_same parts at _ refl;
       held = holdings_same parts at _ refl;
     }
   where

@@ -8,7 +8,7 @@ use Rattle.rk_model.specs.declared.settling.Shift.{Shift}
 use Rattle.rk_model.specs.declared.settling.Shift.TheVariants.{Stay, Leave, ToEnd, ToFront}
 use Rattle.rk_model.specs.Lists.{has}
 use Rattle.rk_model.specs.State.{Plain, ClusterState, no_cluster, cluster_at}
-use Rattle.rk_model.specs.Scheduling.Priorities.{standing, standings_from, standings, is_eligible, home_prio, prio, urgency, nth_standing}
+use Rattle.rk_model.specs.Scheduling.Priorities.{standing, standings_from, standings, is_eligible, home_prio, prio, contribution, is_behind, own, urgency, nth_standing}
 use Rattle.rk_model.specs.Scheduling.ReadyQueues.{assigned, most_urgent, runners}
 use Rattle.rk_model.specs.Scheduling.Settling.{belongs, shift_of, shifts, is_stay, is_to_end, is_to_front, making, shifted, shifted_from, shifted_by, assigned_from, settle_by, settle}
 use Rattle.rk_model.proofs.CountLemmas.{has-append}
@@ -18,7 +18,7 @@ use Rattle.rk_model.proofs.AgreeingKeysLemmas.{most_urgent_agree}
 use Rattle.rk_parts.proofs.StandingLemmas.{urgency_here}
 
 standing-with_clusters : (k : Plain) (clusters : List ClusterState) (t : ℕ) → standing (record k { clusters = clusters }) t ≡ standing k t
-unfolding standing is_eligible home_prio prio
+unfolding standing is_eligible home_prio prio contribution is_behind own
 standing-with_clusters k clusters t = refl
 
 standings_from-with_clusters : (k : Plain) (clusters : List ClusterState) (t n : ℕ) → standings_from (record k { clusters = clusters }) t n ≡ standings_from k t n
@@ -38,7 +38,7 @@ standings-settle before now last = standings-settle_by (standings before) now la
 
 -- nor do the priorities depend on the clusters
 pub urgency-with_clusters : (k : Plain) (clusters : List ClusterState) (c t : ℕ) → urgency (record k { clusters = clusters }) c t ≡ urgency k c t
-unfolding urgency prio
+unfolding urgency prio contribution is_behind own
 urgency-with_clusters k clusters c t = refl
 
 -- clusters that follow the shifts and are then assigned, where these are those of a state from a number on
@@ -119,6 +119,13 @@ settled_alike before now last key other n c (cluster ∷ clusters) same =
     let runs = most_urgent_agree (key c) (other c) (length cluster.cpus) line (λ t h. same c t (moved_belongs before now last c n cluster.line t h)) in
     ap (λ (ts : List ℕ). (let x : ClusterState = record cluster { line = line; cpus = assigned cluster.cpus ts } in x) ∷ settled_from (shifts before now last) key n (c + 1) clusters) runs
     ∙ ap (λ (cs : List ClusterState). settled_cluster (shifts before now last c) (other c) n cluster ∷ cs) (settled_alike before now last key other n (c + 1) clusters same)
+
+-- and so does one cluster
+pub cluster_alike : (before now : List Standing) (last : List ℕ) (key other : ℕ → ℕ) (n c : ℕ) (cluster : ClusterState) → ((t : ℕ) → belongs c (nth_standing now t) ≡ true → key t ≡ other t) → settled_cluster (shifts before now last c) key n cluster ≡ settled_cluster (shifts before now last c) other n cluster
+cluster_alike before now last key other n c cluster same =
+    let line = shifted (shifts before now last c) n cluster.line in
+    let runs = most_urgent_agree key other (length cluster.cpus) line (λ t h. same t (moved_belongs before now last c n cluster.line t h)) in
+    ap (λ (ts : List ℕ). (let x : ClusterState = record cluster { line = line; cpus = assigned cluster.cpus ts } in x)) runs
 
 -- Settling by the priorities that are noted is settling.
 pub settle_noted : (stood : List Standing) (now : Plain) (last : List ℕ) → length now.threads ≡ 64 → (let k : Plain = record now { clusters = settled_from (shifts stood (standings now) last) (λ d. key_of (standings now)) 64 0 now.clusters } in k) ≡ settle_by stood now last

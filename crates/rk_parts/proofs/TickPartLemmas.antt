@@ -7,18 +7,20 @@ use Rattle.rk_parts.specs.declared.parts.ClusterPart.{ClusterPart}
 use Rattle.rk_groups.specs.declared.group.GroupPart.{GroupPart}
 use Rattle.rk_parts.specs.declared.parts.AllParts.{AllParts}
 use Rattle.rk_model.specs.Lists.{nth}
-use Rattle.rk_model.specs.State.{Plain, SemaphoreState, no_semaphore, no_barrier, no_partition, no_period}
-use Rattle.rk_parts.specs.Holdings.{holdings}
+use Rattle.rk_model.specs.State.{Plain, SemaphoreState, no_semaphore, no_barrier, no_partition, no_period, no_thread}
+use Rattle.rk_parts.specs.Contributions.{bears}
+use Rattle.rk_parts.specs.Holdings.{holder, holding_of, holdings}
+use Rattle.rk_parts.specs.Threads.{bearing}
 use Rattle.rk_groups.specs.GroupObjects.{semaphore_group, semaphore_in, semaphores_of, barrier_group, barrier_in, barriers_of, partition_group, partition_in, partitions_of, period_group, period_in, periods_of, held_by}
 use Rattle.rk_parts.specs.Joined.{present_of, threads_of, clusters_of, plain_of}
 use Rattle.rk_parts.specs.Lent.{AreLaid, layout, layouts, stored}
-use Rattle.rk_parts.specs.Noted.{part_at, standings_in, key_of, IsKeyed, AreNoted}
+use Rattle.rk_parts.specs.Noted.{part_at, bearings_in, standings_in, key_of, IsKeyed, AreNoted}
 use Rattle.rk_parts.specs.Whole.{AreWhole, AreFour, ticks_of, ticks_in, at_tick, group_at_tick}
 use Rattle.rk_places.specs.Stores.{group_of}
 use Rattle.rk_groups.proofs.FoundGroupLemmas.{semaphores_same, barriers_same, partitions_same, periods_same}
 use Rattle.rk_parts.proofs.HoldingLemmas.{held_kept}
 use Rattle.rk_parts.proofs.MappedPartLemmas.{mapped_kept, LeavesThreads, threads_mapped, clusters_mapped}
-use Rattle.rk_parts.proofs.PutLemmas.{Ranked, keys_in}
+use Rattle.rk_parts.proofs.PutLemmas.{Ranked, keys_in, lent_alike, told_in}
 
 -- one more of a list is changed
 pub one_mapped : {X : Type 0} (f : X → X) (xs : List X) (i : ℕ) (x next : X) (all : List X) → i < length xs → x ≡ get_or xs i x → next ≡ f x →
@@ -98,8 +100,8 @@ whole_tick n old new whole clusters groups table scenario =
       semaphores = four_tick semaphore_group n old.groups new.groups (λ g. refl) groups whole.semaphores;
       partitions = four_tick partition_group n old.groups new.groups (λ g. refl) groups whole.partitions;
       periods = four_tick period_group n old.groups new.groups (λ g. refl) groups whole.periods;
-      held = held_kept (holdings old.clusters) (holdings new.clusters) (semaphores_of old.groups) (semaphores_of new.groups) (ap (λ (ps : List ClusterPart). holdings ps) clusters ∙ mapped_kept (λ (p : ClusterPart). p.holdings) (at_tick n) (λ p. refl) old.clusters)
-          (λ i. ap (λ (ss : List SemaphoreState). (nth no_semaphore ss i).owner) (ap (λ (gs : List GroupPart). semaphores_of gs) groups ∙ semaphores_tick n old.groups)) whole.held;
+      held = held_kept (holdings old.clusters) (holdings new.clusters) (semaphores_of old.groups) (semaphores_of new.groups) (ap (λ (ps : List ClusterPart). holdings ps) clusters ∙ mapped_kept (λ (p : ClusterPart). p.holdings.owners) (at_tick n) (λ p. refl) old.clusters)
+          (λ i. ap (λ (ss : List SemaphoreState). holding_of (nth no_semaphore ss i)) (ap (λ (gs : List GroupPart). semaphores_of gs) groups ∙ semaphores_tick n old.groups)) whole.held;
       time = record {
         clusters = ap (λ (ps : List ClusterPart). ticks_of (stored ps)) clusters ∙ ticks_tick n old.clusters ∙ ap (λ m. replicate m n) whole.four ∙ ap (replicate 4) (sym tick);
         groups = ap (λ (gs : List GroupPart). ticks_in gs) groups ∙ groups_tick n old.groups ∙ ap (λ m. replicate m n) four ∙ ap (replicate 4) (sym tick);
@@ -111,5 +113,13 @@ whole_tick n old new whole clusters groups table scenario =
 pub noted_tick : (n count : ℕ) (parts : List ClusterPart) → AreNoted count parts → AreNoted count (map (at_tick n) parts)
 noted_tick n count parts noted = record {
   stood = λ at. tick_at (λ (p : ClusterPart). p.threads.stood) n parts at (λ p. refl) ∙ noted.stood at ∙ sym (tick_at standings_in n parts at (λ p. refl));
+  borne = λ at. tick_at (λ (p : ClusterPart). p.threads.borne) n parts at (λ p. refl) ∙ noted.borne at ∙ sym (tick_at bearings_in n parts at (λ p. refl));
+  held = λ at. tick_at (λ (p : ClusterPart). p.holdings.noted) n parts at (λ p. refl) ∙ noted.held at ∙ sym (tick_at (λ (p : ClusterPart). p.holdings.owners) n parts at (λ p. refl));
+  shares = lent_alike (bears parts) (bears (map (at_tick n) parts)) (holder (holdings parts)) (holder (holdings (map (at_tick n) parts))) parts (map (at_tick n) parts)
+      (length-map parts (at_tick n))
+      (λ at. tick_at told_in n parts at (λ p. refl))
+      (λ i t. bearing (nth no_thread (threads_mapped (at_tick n) (record { threads = λ p. refl; lined = λ p. refl; timers = λ p. refl }) parts i) t))
+      (λ i. holder (mapped_kept (λ (p : ClusterPart). p.holdings.owners) (at_tick n) (λ p. refl) parts i))
+      noted.shares;
   keyed = λ at known. subst (λ (k : Ranked). IsKeyed (key_of k.stood) k.line) (sym (tick_at keys_in n parts at (λ p. refl))) (noted.keyed at (rw (tick_at (λ (p : ClusterPart). p.lined.number) n parts at (λ p. refl)) at known));
 }

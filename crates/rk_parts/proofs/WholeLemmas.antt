@@ -6,17 +6,19 @@ use Rattle.rk_model.specs.Scheduling.Settling.{settle}
 use Rattle.rk_parts.specs.declared.parts.ClusterPart.{ClusterPart}
 use Rattle.rk_groups.specs.declared.group.GroupPart.{GroupPart}
 use Rattle.rk_parts.specs.declared.parts.AllParts.{AllParts}
-use Rattle.rk_parts.specs.Holdings.{AreHeld, holdings}
+use Rattle.rk_parts.specs.Holdings.{AreHeld, holder, holdings}
 use Rattle.rk_groups.specs.GroupObjects.{semaphore_group, barrier_group, partition_group, period_group, semaphores_of}
 use Rattle.rk_parts.specs.Joined.{joined, present_of, plain_of}
 use Rattle.rk_parts.specs.Lent.{number_in, AreLaid, layouts, Stored, stored_in, stored}
-use Rattle.rk_parts.specs.Noted.{part_at, AreNoted, LinesHold, settled_part, bare}
+use Rattle.rk_parts.specs.Noted.{part_at, AreLent, AreNoted, LinesHold, settled_part, bare}
 use Rattle.rk_groups.specs.Groups.{GroupFrame, group_frame, group_frames, holds_semaphores, holds_partitions, holds_periods, is_lent}
 use Rattle.rk_parts.specs.Whole.{ticks_of, ticks_in, AreFour, AreWhole}
 use Rattle.rk_groups.proofs.FoundGroupLemmas.{four_hold}
 use Rattle.rk_parts.proofs.HoldingLemmas.{holdings_settled, held_kept}
 use Rattle.rk_parts.proofs.LayoutLemmas.{lie}
 use Rattle.rk_parts.proofs.LentTimerLemmas.{number_found}
+use Rattle.rk_parts.specs.Contributions.{bears}
+use Rattle.rk_parts.proofs.PriorityLemmas.{priorities_are}
 use Rattle.rk_parts.proofs.SettledPartLemmas.{Settles, same_stored, part_settled, length_settled, layouts_settled, settled_joined, noted_settled}
 
 -- the parts of all clusters of a state are found by their numbers
@@ -89,8 +91,9 @@ present_first (p ∷ ps) = refl
 
 -- ---- a change and settling
 
--- All parts after a change: they are laid as parts of the state, each semaphore is held by its owner, and what they store and what no directive touches is as before.
+-- All parts after a change: they are laid as parts of the state, each semaphore is held by its owner, what is contributed to priorities is what the threads contribute, and what they store and what no directive touches is as before.
 pub record Keeps (before mid : AllParts) : Type 0 where
+  pub shares : AreLent (bears mid.clusters) (holder (holdings mid.clusters)) mid.clusters
   pub laid : AreLaid before.scenario.clusters (layouts mid.clusters)
   pub kept : stored mid.clusters ≡ stored before.clusters
   pub held : AreHeld (holdings mid.clusters) (semaphores_of mid.groups)
@@ -130,8 +133,12 @@ whole_settled before mid new last whole keeps done =
     }
 
 settles : (before mid : AllParts) (new : List ClusterPart) (last : List ℕ) → AreWhole before → AreNoted (length before.scenario.clusters) before.clusters → LinesHold (plain_of before) → length before.scenario.clusters ≤ 4 → Keeps before mid → map bare new ≡ map (settled_part last) mid.clusters →
-    Settles before.scenario (plain_of before) before.clusters mid.clusters new last
+    Settles before.scenario (plain_of before) (joined before.scenario mid.table.names mid.clusters mid.groups) before.clusters mid.clusters new last
 settles before mid new last whole noted lines few keeps done = record {
+  prios = priorities_are before.scenario before.table.names before.groups before.clusters whole.held noted.shares;
+  prios_after = priorities_are before.scenario mid.table.names mid.groups mid.clusters keeps.held keeps.shares;
+  threads_after = refl;
+  shares = keeps.shares;
   laid = whole.laid;
   laid_after = keeps.laid;
   lent = λ c known. lent_all before.scenario.clusters mid.clusters c (four_kept before mid whole keeps) (numbers_kept before mid whole keeps) keeps.laid few known;
@@ -156,4 +163,4 @@ pub all_noted_settled : (before mid : AllParts) (new : List ClusterPart) (last :
     AreNoted (length mid.scenario.clusters) new
 all_noted_settled before mid new last whole noted lines few keeps done =
     subst (λ (s : Scenario). AreNoted (length s.clusters) new) (sym keeps.scenario)
-    (noted_settled before.scenario (plain_of before) before.clusters mid.clusters new last (settles before mid new last whole noted lines few keeps done))
+    (noted_settled before.scenario (plain_of before) (joined before.scenario mid.table.names mid.clusters mid.groups) before.clusters mid.clusters new last (settles before mid new last whole noted lines few keeps done))

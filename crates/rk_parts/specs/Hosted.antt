@@ -1,6 +1,5 @@
 -- Whom the processors of lent parts help, as it follows from the parts, and as it is noted in them.
 use Rattle.std.specs.Prelude.{ℕ, zero, suc, ◌≡◌, List, [], ◌∷◌, ◌++◌, Bool, false, ◌&&◌, ◌||◌, Option, Some, None, length, if◌then◌else◌}
-use Rattle.std.specs.List.{AllByRecursion}
 use Rattle.rk_model.specs.declared.limits.TheConstants.{MOST_PROCESSORS}
 use Rattle.rk_model.specs.declared.scenario.Scenario.{Scenario}
 use Rattle.rk_model.specs.declared.state.Thread.{Thread}
@@ -17,11 +16,11 @@ use Rattle.rk_parts.specs.Holdings.{AreHeld, holdings}
 use Rattle.rk_parts.specs.Joined.{placed_in, threads_of, thread_lent}
 use Rattle.rk_parts.specs.Lent.{AreLaid, layouts}
 use Rattle.rk_parts.specs.Seats.{is_seat, seat_in}
-use Rattle.rk_parts.specs.Threads.{is_ready}
+use Rattle.rk_parts.specs.Threads.{bearing, is_ready}
 
 -- whether a thread could run, by itself: it is eligible and waits for nothing
 abbrev pub could_run : Thread → Bool
-could_run thread = is_ready thread && is_no_wait thread.wait
+could_run thread = is_ready (bearing thread) && is_no_wait thread.wait
 
 -- how a thread of these parts stands in its chain
 abbrev pub link_lent : List ClusterPart → ℕ → Link

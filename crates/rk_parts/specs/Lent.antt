@@ -15,11 +15,14 @@ use Rattle.rk_model.specs.Scheduling.Timers.{take_due}
 use Rattle.rk_model.specs.Text.Scenarios.{cpus_in}
 use Rattle.rk_cluster.specs.Clusters.{Cluster}
 use Rattle.rk_mrsp.specs.declared.seats.Seat.{Seat}
+use Rattle.rk_parts.specs.declared.bearing.Bearing.{Bearing}
+use Rattle.rk_parts.specs.declared.holdings.Holding.{Holding}
 use Rattle.rk_parts.specs.declared.parts.ClusterPart.{ClusterPart}
 use Rattle.rk_groups.specs.declared.group.GroupPart.{GroupPart}
 use Rattle.rk_groups.specs.Groups.{one_more}
 use Rattle.rk_parts.specs.Holdings.{holder, holdings, IsNotedIn}
 use Rattle.rk_parts.specs.Joined.{joined, lives_in, present_of, threads_of, clusters_by, thread_lent}
+use Rattle.rk_agg.specs.Shares.{Shares}
 
 -- the first of these parts in which a thread lives
 abbrev pub found_in : List ClusterPart → ℕ → Option ℕ
@@ -63,13 +66,27 @@ stored_in part = record { lined = part.lined; stood = part.threads.stood; presen
 abbrev pub stored : List ClusterPart → List Stored
 stored parts = map stored_in parts
 
--- The frame of parts is what a narrow directive keeps of them: how they lie, and what they store.
+-- By what a part keeps account of contributions: what its threads bore and how they held semaphores when it settled last, and what they contribute.
+pub record Account : Type 0 where
+  pub borne : List Bearing
+  pub held : List (Option Holding)
+  pub shares : Shares
+
+abbrev pub account_in : ClusterPart → Account
+account_in part = record { borne = part.threads.borne; held = part.holdings.noted; shares = part.threads.shares }
+
+-- the accounts of these parts
+abbrev pub accounts : List ClusterPart → List Account
+accounts parts = map account_in parts
+
+-- The frame of parts is what a narrow directive keeps of them: how they lie, what they store, and their accounts.
 pub record Frame : Type 0 where
   pub layouts : List Layout
   pub stored : List Stored
+  pub accounts : List Account
 
 abbrev pub frame : List ClusterPart → Frame
-frame parts = record { layouts = layouts parts; stored = stored parts }
+frame parts = record { layouts = layouts parts; stored = stored parts; accounts = accounts parts }
 
 abbrev pub no_layout : Layout
 no_layout = record { number = 0; first = 0; count = 0; places = [] }
@@ -106,11 +123,12 @@ pub record Puts (old : List ClusterPart) (t : ℕ) (thread : Thread) (new : List
   pub kept : frame new ≡ frame old
   pub held : holdings new ≡ holdings old
 
--- Where these are parts of a state, they stand for that state with another thread at an index; they store and hold the same, and are laid as before where its home is a cluster of the state.
+-- Where these are parts of a state, they stand for that state with another thread at an index; they store and hold the same, keep their accounts, and are laid as before where its home is a cluster of the state.
 pub record Replaces (old : List ClusterPart) (t : ℕ) (thread : Thread) (new : List ClusterPart) : Type 0 where
   pub state : (s : Scenario) (table : Table) (groups : List GroupPart) → AreLaid s.clusters (layouts old) → joined s table new groups ≡ put_thread (joined s table old groups) t thread
   pub laid : (counts : List ℕ) → AreLaid counts (layouts old) → (has_begun thread.life ≡ true → thread.home < length counts) → AreLaid counts (layouts new)
   pub kept : stored new ≡ stored old
+  pub accounts : accounts new ≡ accounts old
   pub held : holdings new ≡ holdings old
 
 -- the state with other timers in a cluster
@@ -131,10 +149,10 @@ pub record TakesDue (old : List ClusterPart) (c : ℕ) (new : List ClusterPart) 
   pub held : holdings new ≡ holdings old
 
 -- The parts stand for the same state and keep their frame, and a semaphore is held by its owner, if it has one, in the part in which the owner lives and in no other; who holds another does so still.
-pub record NotesOwner (old : List ClusterPart) (i : ℕ) (owner : Option ℕ) (new : List ClusterPart) : Type 0 where
+pub record NotesOwner (old : List ClusterPart) (i : ℕ) (holding : Option Holding) (new : List ClusterPart) : Type 0 where
   pub threads : threads_of new ≡ threads_of old
   pub clusters : clusters_by new ≡ clusters_by old
   pub present : present_of new ≡ present_of old
   pub kept : frame new ≡ frame old
-  pub held : (j : ℕ) → holder (holdings new) j ≡ (if j == i then owner else holder (holdings old) j)
-  pub there : AllByRecursion (IsNotedIn i owner) new
+  pub held : (j : ℕ) → holder (holdings new) j ≡ (if j == i then holding else holder (holdings old) j)
+  pub there : AllByRecursion (IsNotedIn i holding) new

@@ -1,11 +1,15 @@
 pub mod Threads
 pub mod Joined
+pub mod Held
 pub mod Holdings
 pub mod HeldChains
 pub mod Hosted
 pub mod Lent
 pub mod ClusterRegisters
 pub mod Noted
+pub mod Contributions
+pub mod Contributing
+pub mod Lending
 pub mod Seats
 pub mod Whole
 pub mod Settled

@@ -9,11 +9,12 @@ ghost use Rattle.rk_parts.specs.Hosted.{could_run, link_lent, scene_lent, AreHos
 ghost use Rattle.rk_parts.specs.Noted.{bare, part_at};
 ghost use Rattle.rk_parts.specs.Seats.{seat_in};
 
+use crate::bearing::{bearing_of, is_ready, is_spinning};
 use crate::holdings::waits_on;
 use crate::lent::thread_of;
 use crate::parts::ClusterPart;
 use crate::processors::cpu_of;
-use crate::standing::{is_ready, is_spinning, spins};
+use crate::standing::spins;
 use rk_model::limits::{MOST_OBJECTS, MOST_PROCESSORS};
 use rk_model::{Thread, ThreadIx};
 use rk_mrsp::{Link, host};
@@ -22,7 +23,7 @@ use rk_mrsp::{Link, host};
 fn could_run(thread: Thread) -> bool
     ensures { result ≡ could_run thread }
 {
-    is_ready(thread) && thread.wait.is_none()
+    is_ready(bearing_of(thread)) && thread.wait.is_none()
 }
 
 /// How a thread stands in its chain.

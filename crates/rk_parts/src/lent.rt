@@ -7,7 +7,7 @@ ghost use Rattle.rk_model.specs.Directives.Objects.{has_begun};
 ghost use Rattle.rk_parts.specs.Joined.{held, thread_lent};
 ghost use Rattle.rk_parts.specs.Lent.{found_in, number_in, Puts, Replaces};
 ghost use Rattle.rk_parts.specs.Noted.{AreNoted};
-ghost use Rattle.rk_parts.specs.Threads.{own_standing};
+ghost use Rattle.rk_parts.specs.Threads.{bearing};
 
 use crate::parts::ClusterPart;
 use rk_model::{Thread, ThreadIx};
@@ -74,13 +74,12 @@ pub fn put(clusters: &mut [ClusterPart], index: ThreadIx, thread: Thread)
     }
 }
 
-/// Puts another thread where one lives, that lives, has the same home, and stands and waits as before.
+/// Puts another thread where one lives, that lives, has the same home and bears the same.
 pub fn renew(clusters: &mut [ClusterPart], index: ThreadIx, thread: Thread)
     requires lives { has_begun (thread_lent clusters.old index).life ≡ true }
     requires life { has_begun thread.life ≡ true }
     requires home { thread.home ≡ (thread_lent clusters.old index).home }
-    requires stands { own_standing thread ≡ own_standing (thread_lent clusters.old index) }
-    requires waits { thread.wait ≡ (thread_lent clusters.old index).wait }
+    requires bears { bearing thread ≡ bearing (thread_lent clusters.old index) }
     ensures puts { Puts clusters.old index thread clusters.new }
     ensures noted { (count : ℕ) → AreNoted count clusters.old → AreNoted count clusters.new }
 {

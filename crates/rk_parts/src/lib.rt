@@ -2,6 +2,8 @@
 #![tactic(auto)]
 
 pub mod arrival;
+pub mod bearing;
+pub mod contribute;
 pub mod helping;
 pub mod holdings;
 pub mod lent;

@@ -14,9 +14,10 @@ ghost use Rattle.rk_parts.specs.Joined.{joined};
 ghost use Rattle.rk_parts.specs.Lent.{layouts, AreLaid};
 ghost use Rattle.rk_parts.specs.Seats.{seat_in, is_seat, seat_of};
 
+use crate::bearing::is_spinning;
 use crate::lent::thread_of;
 use crate::parts::ClusterPart;
-use crate::standing::{is_spinning, spins};
+use crate::standing::spins;
 use rk_cluster::Cluster;
 use rk_model::{Scenario, ThreadIx, View, Why};
 

@@ -5,12 +5,11 @@ ghost use Rattle.std.specs.Option.{option_to_list};
 ghost use Rattle.rk_model.specs.Lists.{has};
 ghost use Rattle.rk_model.specs.Scheduling.Settling.{is_cluster, shift_of};
 ghost use Rattle.rk_cluster.specs.Registers.{change_at};
-ghost use Rattle.rk_parts.specs.Threads.{own_standing};
+ghost use Rattle.rk_parts.specs.Threads.{standings_by};
 ghost use Rattle.rk_parts.specs.ClusterRegisters.{change_by, register};
 ghost use Rattle.rk_parts.specs.Noted.{bare, settled_part, one_lives};
 
 use crate::parts::ClusterPart;
-use crate::standing::own;
 use crate::threads::Threads;
 use rk_cluster::{Change, Moves};
 use rk_model::{Prio, Shift, Standing, ThreadIx};
@@ -68,24 +67,24 @@ fn goes_last(last: &Option<ThreadIx>, thread: ThreadIx) -> bool
 }
 
 /// The change of a thread in the register of a cluster.
-#[tactic(auto, using(crate::proofs::StandingLemmas::standing_of), unfolding(rk_model::specs::Scheduling::Settling::shifts))]
+#[tactic(auto, using(crate::proofs::StandingLemmas::standings_say_at), unfolding(rk_model::specs::Scheduling::Settling::shifts))]
 fn change_of(
     threads: &Threads,
     last: &Option<ThreadIx>,
     cluster: u8,
     thread: ThreadIx,
 ) -> Option<Change>
-    ensures { result ≡ register threads.now.stood (map own_standing threads.now.places) (option_to_list last.now) cluster thread }
+    ensures { result ≡ register threads.now.stood (standings_by threads.now.shares threads.now.places) (option_to_list last.now) cluster thread }
 {
     let before = threads.stood(thread);
-    let now = own(threads.get(thread));
+    let now = threads.standing(thread);
     let asked = compare(cluster, &before, &now, goes_last(last, thread));
     change_for(is_number(cluster, before.cluster), asked, now.prio)
 }
 
 /// Writes the register of a cluster.
 fn fill_register(out: &mut Moves, threads: &Threads, last: &Option<ThreadIx>, cluster: u8)
-    ensures { change_at out.new ≡ register threads.now.stood (map own_standing threads.now.places) (option_to_list last.now) cluster }
+    ensures { change_at out.new ≡ register threads.now.stood (standings_by threads.now.shares threads.now.places) (option_to_list last.now) cluster }
 {
     out.clear();
     let marked = threads.marked();
@@ -111,14 +110,17 @@ fn lives_last(threads: &Threads, last: &Option<ThreadIx>) -> bool
     }
 }
 
-/// Whether nobody is marked in a part, and the thread that goes last, if one does, lives elsewhere.
+/// Whether nobody is marked in a part, no holding changed there, and the thread that goes last, if one
+/// does, lives elsewhere.
 /// Then the part is settled.
 fn is_settled(part: &ClusterPart, last: &Option<ThreadIx>) -> bool
     ensures { IsTrue result → bare part.now ≡ settled_part (option_to_list last.now) part.now }
 {
     // Reading the number tells that the processors are assigned.
     let _number = part.lined.number();
-    part.threads.marked().is_empty() && !lives_last(&part.threads, last)
+    part.threads.marked().is_empty()
+        && !part.holdings.is_changed()
+        && !lives_last(&part.threads, last)
 }
 
 /// Settles the part of a cluster after a change, where one thread may go last. It costs what the
@@ -130,6 +132,7 @@ fn settle_part(part: &mut ClusterPart, last: &Option<ThreadIx>)
     fill_register(&mut part.moves, &part.threads, last, number);
     part.lined.settle(&part.moves);
     part.threads.note();
+    part.holdings.note();
 }
 
 /// Settles each of the lent parts, where no thread goes last.

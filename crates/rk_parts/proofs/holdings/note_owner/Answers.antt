@@ -15,6 +15,6 @@ returns c =
     let more : length new ≤ at = omega arith in
     let all : take at new ≡ new = take_all at new more in
     let none : drop at new ≡ [] = drop_of_length-le new more in
-    let is : new ≡ map (with_owner c.args.index c.args.owner) old = sym (append-nil new) ∙ rw (all, none) at c.loop-at.invariant.so_far in
-    let noted = subst (AllByRecursion (IsNotedIn c.args.index c.args.owner)) (all ∙ is) c.loop-at.invariant.noted in
-    subst (NotesOwner old c.args.index c.args.owner) (sym is) (notes c.args.index c.args.owner old noted c.requires.lives)
+    let is : new ≡ map (with_owner c.args.index c.args.holding) old = sym (append-nil new) ∙ rw (all, none) at c.loop-at.invariant.so_far in
+    let noted = subst (AllByRecursion (IsNotedIn c.args.index c.args.holding)) (all ∙ is) c.loop-at.invariant.noted in
+    subst (NotesOwner old c.args.index c.args.holding) (sym is) (notes c.args.index c.args.holding old noted c.requires.lives)

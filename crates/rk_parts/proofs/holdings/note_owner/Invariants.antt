@@ -6,6 +6,6 @@ use Rattle.rk_parts.proofs.holdings.note_owner.Given as goal
 abbrev pub invariant-loop-at : goal.invariant-loop-at
 invariant-loop-at l = record {
   size : length l.clusters ≡ length l.fn.clusters;
-  so_far : take l.at l.clusters ++ map (with_owner l.index l.owner) (drop l.at l.clusters) ≡ map (with_owner l.index l.owner) l.fn.clusters;
-  noted : AllByRecursion (IsNotedIn l.index l.owner) (take l.at l.clusters);
+  so_far : take l.at l.clusters ++ map (with_owner l.index l.holding) (drop l.at l.clusters) ≡ map (with_owner l.index l.holding) l.fn.clusters;
+  noted : AllByRecursion (IsNotedIn l.index l.holding) (take l.at l.clusters);
 }

@@ -1,6 +1,6 @@
 use Rattle.std.proofs.Common.{◌≡◌, Some, sym, ap, ◌∙◌, subst, arith}
 use Rattle.rk_parts.specs.Lent.{found_in, Puts}
-use Rattle.rk_parts.specs.Threads.{own_standing}
+use Rattle.rk_parts.specs.Threads.{bearing}
 use Rattle.rk_parts.specs.Noted.{AreNoted}
 use Rattle.rk_parts.proofs.HeldLemmas.{found_within}
 use Rattle.rk_parts.proofs.PutLemmas.{as_put, put_puts, noted_put, thread_found, never_found}
@@ -10,8 +10,7 @@ pub renew-requires : goal.renew-requires
 renew-requires c =
     let parts = c.args.clusters.now in
     let found : found_in parts c.args.index ≡ Some c.in-Some.at = sym c.place_of.ensures.place ∙ c.in-Some.is in
-    let there = thread_found parts c.in-Some.at c.args.index c.index-clusters-at.result (omega arith) (omega arith) found in
-    record { stands = c.requires.stands ∙ ap own_standing there; waits = c.requires.waits ∙ ap (λ x. x.wait) there }
+    c.requires.bears ∙ ap bearing (thread_found parts c.in-Some.at c.args.index c.index-clusters-at.result (omega arith) (omega arith) found)
 
 pub returns-in-Some : goal.returns-in-Some
 returns-in-Some c =
@@ -22,7 +21,7 @@ returns-in-Some c =
     let is = as_put parts c.in-Some.at t c.index-clusters-at.result c.renew.new.self x (found_within parts c.in-Some.at t found) c.renew.ensures in
     record {
       puts = subst (Puts parts t x) (sym is) (put_puts parts c.in-Some.at t x (omega arith) (omega arith) found c.requires.lives c.requires.life c.requires.home);
-      noted = λ count noted. subst (AreNoted count) (sym is) (noted_put count parts c.in-Some.at t x (omega arith) (omega arith) found c.requires.stands noted);
+      noted = λ count noted. subst (AreNoted count) (sym is) (noted_put count parts c.in-Some.at t x (omega arith) (omega arith) found c.requires.bears noted);
     }
 
 pub returns-in_default : goal.returns-in_default
