@@ -8,6 +8,8 @@ pub mod SemaphoresLemmas
 pub mod PartitionsLemmas
 pub mod PeriodsLemmas
 pub mod LentSemaphoresLemmas
+pub mod PresentPriorityLemmas
+pub mod LentCeilingsLemmas
 pub mod LentPeriodsLemmas
 pub mod KeptPeriodsLemmas
 pub mod ActionLemmas

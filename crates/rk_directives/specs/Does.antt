@@ -18,6 +18,7 @@ use Rattle.rk_model.specs.Lists.{times}
 use Rattle.rk_model.specs.Directives.Objects.{has_begun, create}
 use Rattle.rk_model.specs.Directives.Waits.{Object, object_of_wait, is_for, arrivals_in, stop_wait}
 use Rattle.rk_model.specs.Directives.Outcomes.{Outcome, Refused, done, answer_of, changed}
+use Rattle.rk_parts.specs.declared.holdings.Holding.{Holding}
 use Rattle.rk_parts.specs.declared.parts.ClusterPart.{ClusterPart}
 use Rattle.rk_groups.specs.declared.group.GroupPart.{GroupPart}
 use Rattle.rk_parts.specs.declared.parts.AllParts.{AllParts}
@@ -28,12 +29,15 @@ use Rattle.rk_period.specs.Periods.{Fits, waits_for}
 use Rattle.rk_groups.specs.GroupObjects.{semaphores_of, barriers_of, semaphore_lent, period_lent}
 use Rattle.rk_parts.specs.Joined.{no_scenario, joined, plain_of, present_of, threads_of, thread_lent, timers_lent}
 use Rattle.rk_groups.specs.Groups.{GroupFrame, group_frames}
-use Rattle.rk_parts.specs.Holdings.{AreHeld, holder, holdings}
-use Rattle.rk_parts.specs.Lent.{AreLaid, layouts, stored, frame}
+use Rattle.rk_parts.specs.Holdings.{AreHeld, holder, holding_of, holdings}
+use Rattle.rk_parts.specs.Lending.{home_prio_lent, prio_lent}
+use Rattle.rk_parts.specs.Contributions.{IsOne}
+use Rattle.rk_model.specs.Scheduling.Priorities.{home_prio, prio}
+use Rattle.rk_parts.specs.Lent.{AreLaid, accounts, layouts, stored, frame}
 
 -- each semaphore of these groups has the owner that it had
 abbrev pub KeepsOwners : List GroupPart → List GroupPart → Type 0
-KeepsOwners groups groups' = (i : ℕ) → (semaphore_lent groups' i).owner ≡ (semaphore_lent groups i).owner
+KeepsOwners groups groups' = (i : ℕ) → holding_of (semaphore_lent groups' i) ≡ holding_of (semaphore_lent groups i)
 
 -- each semaphore is held by its owner, if it was so before
 abbrev pub KeepsHeld : List ClusterPart → List GroupPart → List ClusterPart → List GroupPart → Type 0
@@ -51,7 +55,7 @@ pub record Comes (s : Scenario) (change : Plain → Plain) (before after : List 
   pub kept : frame after ≡ frame before
 
 -- The parts stand for the same state; where a semaphore was held by its owner of before, it is held by its owner of now, and who holds another does so still.
-pub record Notes (before : List ClusterPart) (i : ℕ) (was owner : Option ℕ) (after : List ClusterPart) : Type 0 where
+pub record Notes (before : List ClusterPart) (i : ℕ) (was owner : Option Holding) (after : List ClusterPart) : Type 0 where
   pub comes : (s : Scenario) → Comes s (λ k. k) before after
   pub threads : threads_of after ≡ threads_of before
   pub held : holder (holdings before) i ≡ was → (j : ℕ) → holder (holdings after) j ≡ (if j == i then owner else holder (holdings before) j)
@@ -83,6 +87,7 @@ pub record BecomesWide (s : Scenario) (change : Plain → Plain) (before : List 
   pub state : (groups : List GroupPart) → AreLaid s.clusters (layouts before) → joined s table' after groups ≡ change (joined s table before groups)
   pub laid : AreLaid s.clusters (layouts before) → AreLaid s.clusters (layouts after)
   pub kept : stored after ≡ stored before
+  pub accounts : accounts after ≡ accounts before
   pub held : holdings after ≡ holdings before
 
 -- A wide row, which is lent all cluster parts and the table: the answer is that of its outcome, the state is changed as it says, and the parts are still parts of that state and store and hold the same.
@@ -91,6 +96,7 @@ pub record DoesWide (s : Scenario) (row : Plain → Outcome) (answer : Answer) (
   pub state : (groups : List GroupPart) → AreLaid s.clusters (layouts before) → joined s table' after groups ≡ changed (joined s table before groups) (row (joined s table before groups))
   pub laid : AreLaid s.clusters (layouts before) → AreLaid s.clusters (layouts after)
   pub kept : stored after ≡ stored before
+  pub accounts : accounts after ≡ accounts before
   pub held : holdings after ≡ holdings before
 
 -- The same of all parts of clusters and groups, and the table.
@@ -98,6 +104,7 @@ pub record BecomesEvery (s : Scenario) (change : Plain → Plain) (before : List
   pub state : AreLaid s.clusters (layouts before) → joined s table' after groups' ≡ change (joined s table before groups)
   pub laid : AreLaid s.clusters (layouts before) → AreLaid s.clusters (layouts after)
   pub kept : stored after ≡ stored before
+  pub accounts : accounts after ≡ accounts before
   pub framed : group_frames groups' ≡ group_frames groups
   pub held : KeepsHeld before groups after groups'
 
@@ -107,6 +114,7 @@ pub record DoesEvery (s : Scenario) (row : Plain → Outcome) (answer : Answer) 
   pub state : AreLaid s.clusters (layouts before) → joined s table' after groups' ≡ changed (joined s table before groups) (row (joined s table before groups))
   pub laid : AreLaid s.clusters (layouts before) → AreLaid s.clusters (layouts after)
   pub kept : stored after ≡ stored before
+  pub accounts : accounts after ≡ accounts before
   pub framed : group_frames groups' ≡ group_frames groups
   pub held : KeepsHeld before groups after groups'
 
@@ -132,12 +140,25 @@ pub record DoesAll (o : Outcome) (answer : Answer) (before after : AllParts) : T
   pub state : plain_of after ≡ changed (plain_of before) o
   pub laid : AreLaid before.scenario.clusters (layouts after.clusters)
   pub kept : stored after.clusters ≡ stored before.clusters
+  pub accounts : accounts after.clusters ≡ accounts before.clusters
   pub held : AreHeld (holdings after.clusters) (semaphores_of after.groups)
   pub rest : untouched after ≡ untouched before
 
 -- The state of these parts of clusters and groups by themselves.
 abbrev pub lent_both : List ClusterPart → List GroupPart → Plain
 lent_both parts groups = joined no_scenario no_objects parts groups
+
+-- The priorities that lent parts have are those of the state that they stand for with these groups.
+abbrev pub HavePriorities : List ClusterPart → List GroupPart → Type 0
+HavePriorities parts groups = (t : ℕ) → IsOne t → home_prio_lent parts t ≡ home_prio (lent_both parts groups) t
+
+-- So are those that they have in each cluster.
+abbrev pub HaveEachPriority : List ClusterPart → List GroupPart → Type 0
+HaveEachPriority parts groups = (t c : ℕ) → IsOne t → prio_lent parts t c ≡ prio (lent_both parts groups) t c
+
+-- Who owns a semaphore of these groups lives in these parts.
+abbrev pub OwnersLive : List ClusterPart → List GroupPart → Type 0
+OwnersLive parts groups = (i t : ℕ) → (semaphore_lent groups i).owner ≡ Some t → has_begun (thread_lent parts t).life ≡ true
 
 -- In the queue of an object stand exactly the lent threads that wait for it, each once.
 abbrev pub IsQueueOf : List ClusterPart → List GroupPart → Object → Type 0

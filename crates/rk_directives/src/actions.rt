@@ -3,12 +3,12 @@
 //! A narrow directive is done on the cluster parts that are lent, however many, and touches them
 //! through the accessors of `rk_parts` alone. A wide one needs all of them and the table.
 
-ghost use Rattle.std.specs.Prelude.{◌≡◌, ℕ, None, Some, true, false};
+ghost use Rattle.std.specs.Prelude.{◌≡◌, ℕ, IfSome, None, Some, true, false};
 ghost use Rattle.rk_model.specs.declared.entry.Reply.{Reply as ReplyView};
 ghost use Rattle.rk_model.specs.declared.scenario.Scenario.{Scenario as ScenarioView};
 ghost use Rattle.rk_model.specs.declared.state.Armer.TheVariants.{Thread as OfThread};
 ghost use Rattle.rk_model.specs.Directives.Objects.{has_begun};
-ghost use Rattle.rk_model.specs.Limits.{AreRunnable};
+ghost use Rattle.rk_model.specs.Limits.{AreRunnable, IsNear};
 ghost use Rattle.rk_model.specs.Scheduling.Timers.{times_armed};
 ghost use Rattle.rk_model.specs.State.{thread_at};
 ghost use Rattle.rk_model.specs.Steps.{action, back, directive, is_wide};
@@ -18,7 +18,7 @@ ghost use Rattle.rk_model.specs.Directives.Periods.{period_delete};
 ghost use Rattle.rk_model.specs.Directives.Semaphores.{semaphore_create, semaphore_delete};
 ghost use Rattle.rk_model.specs.Directives.Tasks.{task_delete};
 ghost use Rattle.rk_model.specs.Directives.Waits.{Object};
-ghost use Rattle.rk_directives.specs.Does.{Does, DoesAll, DoesBoth, IsQueueOf, MayCall, lent_both};
+ghost use Rattle.rk_directives.specs.Does.{HaveEachPriority, HavePriorities, Does, DoesAll, DoesBoth, IsQueueOf, MayCall, OwnersLive, lent_both};
 ghost use Rattle.rk_directives.specs.Calls.{IsActing, period_called, queue_named};
 ghost use Rattle.rk_parts.specs.Holdings.{AreHeld, holdings};
 ghost use Rattle.rk_groups.specs.GroupObjects.{semaphores_of};
@@ -35,11 +35,11 @@ use crate::partitions::{
 use crate::periods::{period_cancel, period_create, period_delete, period_ident, period_period};
 use crate::semaphores::{
     semaphore_create, semaphore_delete, semaphore_flush, semaphore_ident, semaphore_obtain,
-    semaphore_release,
+    semaphore_release, semaphore_set_priority,
 };
 use crate::tasks::{
-    task_create, task_delete, task_exit, task_ident, task_resume, task_set_priority, task_start,
-    task_suspend, task_wake_after,
+    task_create, task_delete, task_exit, task_get_priority, task_ident, task_resume,
+    task_set_priority, task_start, task_suspend, task_wake_after,
 };
 use rk_groups::group::GroupPart;
 use rk_model::{Answer, Name, Op, Reply, Scenario, SemSpec, Target, Thread, ThreadIx};
@@ -76,19 +76,29 @@ fn perform_narrow(
     requires queue { (object : Object) → queue_named (lent_both clusters.old groups.old) caller op ≡ Some object → IsQueueOf clusters.old groups.old object }
     requires period { (i : ℕ) → period_called (lent_both clusters.old groups.old) caller op ≡ Some i → MayCall clusters.old groups.old i caller }
     requires bodies { AreRunnable scenario.now.bodies }
+    requires near { IsNear op }
+    requires owned { OwnersLive clusters.old groups.old }
+    requires prios { HavePriorities clusters.old groups.old }
+    requires each { HaveEachPriority clusters.old groups.old }
     ensures { DoesBoth scenario.now (λ k. directive k caller (Some op)) result clusters.old groups.old clusters.new groups.new }
 {
     match op {
         Op::TaskStart(id, body) => task_start(scenario, clusters, caller, id, body),
         Op::TaskSuspend(id) => task_suspend(clusters, caller, id),
         Op::TaskResume(id) => task_resume(clusters, caller, id),
-        Op::TaskSetPriority(id, prio, _) => task_set_priority(clusters, caller, id, prio),
+        Op::TaskSetPriority(id, prio, _) => task_set_priority(clusters, groups, caller, id, prio),
+        Op::TaskGetPriority(id, cluster, _) => {
+            task_get_priority(clusters, groups, caller, id, cluster)
+        }
         Op::TaskWakeAfter(ticks) => task_wake_after(clusters, caller, ticks),
         Op::EventSend(id, set) => event_send(clusters, groups, caller, id, set),
         Op::EventReceive(set, all, wish, _) => event_receive(clusters, caller, set, all, wish),
         Op::SemObtain(id, wish) => semaphore_obtain(clusters, groups, caller, id, wish),
         Op::SemRelease(id) => semaphore_release(clusters, groups, caller, id),
         Op::SemFlush(id) => semaphore_flush(clusters, groups, caller, id),
+        Op::SemSetPriority(id, cluster, prio, _) => {
+            semaphore_set_priority(clusters, groups, caller, id, cluster, prio)
+        }
         Op::BarrierWait(id, ticks) => barrier_wait(clusters, groups, caller, id, ticks),
         Op::BarrierRelease(id, _) => barrier_release(clusters, groups, caller, id),
         Op::PartGet(id, _) => partition_get(clusters, groups, caller, id),
@@ -100,7 +110,7 @@ fn perform_narrow(
         Op::TaskCreate(_, _, _)
         | Op::TaskIdent(_, _)
         | Op::TaskDelete(_)
-        | Op::SemCreate(_, _, _)
+        | Op::SemCreate(_, _, _, _, _, _, _)
         | Op::SemIdent(_, _)
         | Op::SemDelete(_)
         | Op::BarrierCreate(_, _, _, _)
@@ -139,6 +149,7 @@ fn perform_semaphore_create(
 ) -> Answer
     requires acts { IsActing (plain_of all.old) caller }
     requires whole { AreWhole all.old }
+    requires prios { HavePriorities all.old.clusters all.old.groups }
     ensures { DoesAll (semaphore_create (plain_of all.old) caller name.bits spec) result all.old all.new }
 {
     semaphore_create(
@@ -215,6 +226,9 @@ fn perform_period_delete(all: &mut AllParts, caller: ThreadIx, id: Target) -> An
 fn perform(all: &mut AllParts, caller: ThreadIx, op: Op) -> Answer
     requires acts { IsActing (plain_of all.old) caller }
     requires whole { AreWhole all.old }
+    requires near { IsNear op }
+    requires prios { HavePriorities all.old.clusters all.old.groups }
+    requires each { HaveEachPriority all.old.clusters all.old.groups }
     ensures { DoesAll (directive (plain_of all.old) caller (Some op)) result all.old all.new }
 {
     match op {
@@ -223,7 +237,16 @@ fn perform(all: &mut AllParts, caller: ThreadIx, op: Op) -> Answer
         }
         Op::TaskIdent(name, _) => task_ident(&all.table.names, name),
         Op::TaskDelete(id) => perform_task_delete(all, caller, id),
-        Op::SemCreate(name, spec, _) => perform_semaphore_create(all, caller, name, spec),
+        Op::SemCreate(name, count, kind, order, protocol, ceiling, _) => {
+            let spec = SemSpec {
+                count,
+                kind,
+                order,
+                protocol,
+                ceiling,
+            };
+            perform_semaphore_create(all, caller, name, spec)
+        }
         Op::SemIdent(name, _) => semaphore_ident(&all.table.names, name),
         Op::SemDelete(id) => perform_semaphore_delete(all, caller, id),
         Op::BarrierCreate(name, automatic, most, _) => barrier_create(
@@ -264,6 +287,9 @@ fn perform(all: &mut AllParts, caller: ThreadIx, op: Op) -> Answer
 fn perform_at(all: &mut AllParts, caller: ThreadIx, op: Option<Op>) -> Answer
     requires acts { IsActing (plain_of all.old) caller }
     requires whole { AreWhole all.old }
+    requires near { IfSome op IsNear }
+    requires prios { HavePriorities all.old.clusters all.old.groups }
+    requires each { HaveEachPriority all.old.clusters all.old.groups }
     ensures { DoesAll (directive (plain_of all.old) caller op) result all.old all.new }
 {
     match op {
@@ -278,6 +304,8 @@ pub fn action(all: &mut AllParts, caller: ThreadIx, thread: &Thread) -> Answer
     requires acts { IsActing (plain_of all.old) caller }
     requires whole { AreWhole all.old }
     requires thread { thread.now ≡ thread_at (plain_of all.old) caller }
+    requires prios { HavePriorities all.old.clusters all.old.groups }
+    requires each { HaveEachPriority all.old.clusters all.old.groups }
     ensures { DoesAll (action (plain_of all.old) caller) result all.old all.new }
 {
     match thread.finished {

@@ -8,11 +8,11 @@ ghost use Rattle.rk_model.specs.declared.state.Life.TheVariants.{Started};
 ghost use Rattle.rk_model.specs.State.{Plain};
 ghost use Rattle.rk_model.specs.Directives.Objects.{has_begun, object_of};
 ghost use Rattle.rk_model.specs.Directives.Semaphores.{has_obtained};
-ghost use Rattle.rk_model.specs.Directives.Tasks.{has_created, task_of, task_named, dormant_in, prio_refusal, task_create, task_ident, is_dormant, task_start, task_suspend, task_resume, task_set_priority, without_task, task_delete, task_exit, task_wake_after};
+ghost use Rattle.rk_model.specs.Directives.Tasks.{has_created, task_of, task_named, dormant_in, prio_refusal, task_create, task_ident, is_dormant, task_start, task_suspend, task_resume, task_set_priority, task_get_priority, without_task, task_delete, task_exit, task_wake_after};
 ghost use Rattle.rk_model.specs.Directives.Outcomes.{arrived};
 ghost use Rattle.rk_model.specs.Limits.{AreRunnable};
 ghost use Rattle.rk_model.specs.Scheduling.Timers.{times_armed};
-ghost use Rattle.rk_directives.specs.Does.{BecomesEvery, Does, DoesEvery, DoesWide, Tells, with_table};
+ghost use Rattle.rk_directives.specs.Does.{BecomesEvery, Does, DoesBoth, DoesEvery, HaveEachPriority, HavePriorities, DoesWide, Tells, with_table};
 ghost use Rattle.rk_groups.specs.GroupObjects.{periods_of, semaphores_of};
 ghost use Rattle.rk_parts.specs.Joined.{lent, thread_lent, timers_lent};
 ghost use Rattle.rk_parts.specs.Lent.{number_in, Puts};
@@ -32,7 +32,7 @@ use rk_model::{
 use rk_parts::arrival::arrive;
 use rk_parts::lent::{make, put, remove as remove_thread, thread_of};
 use rk_parts::parts::ClusterPart;
-use rk_parts::standing::prio_at_home;
+use rk_parts::standing::{prio_at_home, prio_of};
 use rk_parts::table::Table;
 use rk_parts::timers::cancel;
 
@@ -253,15 +253,16 @@ fn with_base(clusters: &mut [ClusterPart], task: ThreadIx, base: Prio)
 /// goes to the end of its ready queue, and answers the priority that it had in its home; with 0 it
 /// only answers that. It refuses with `INVALID_ID` where the task is unknown, and with
 /// `INVALID_PRIORITY` where the priority is above 255.
-#[tactic(auto, unfolding(rk_model::specs::Scheduling::Priorities::home_prio, rk_model::specs::Scheduling::Priorities::prio))]
 pub(crate) fn task_set_priority(
     clusters: &mut [ClusterPart],
+    groups: &[GroupPart],
     caller: ThreadIx,
     id: Target,
     prio: u32,
 ) -> Answer
-    requires { has_begun (thread_lent clusters.old caller).life ≡ true }
-    ensures { (s : ScenarioView) → Does s (λ k. task_set_priority k caller id prio) result clusters.old clusters.new }
+    requires lives { has_begun (thread_lent clusters.old caller).life ≡ true }
+    requires prios { HavePriorities clusters.old groups.now }
+    ensures { (s : ScenarioView) → DoesBoth s (λ k. task_set_priority k caller id prio) result clusters.old groups.now clusters.new groups.now }
 {
     match task_named(clusters, caller, id) {
         None => Answer::Refused(Status::InvalidId),
@@ -269,12 +270,41 @@ pub(crate) fn task_set_priority(
             if u32::from(LEAST_URGENT) < prio {
                 return Answer::Refused(Status::InvalidPriority);
             }
+            // Reading the index tells its range.
+            let _index = task.at();
             let before = u32::from(prio_at_home(clusters, task).level());
             if prio == 0 {
                 return done(before);
             }
             with_base(clusters, task, Prio::new(prio as u8));
             Answer::Done(Status::Successful, before, Some(task))
+        }
+    }
+}
+
+/// `task.get_priority` (`rtems_task_get_priority`): answers the priority of a task in a cluster. It
+/// refuses with `INVALID_ID` where the task is unknown, and with `NOT_DEFINED` where it has no
+/// priority there.
+pub(crate) fn task_get_priority(
+    clusters: &[ClusterPart],
+    groups: &[GroupPart],
+    caller: ThreadIx,
+    id: Target,
+    cluster: u8,
+) -> Answer
+    requires lives { has_begun (thread_lent clusters.now caller).life ≡ true }
+    requires each { HaveEachPriority clusters.now groups.now }
+    ensures { (s : ScenarioView) → DoesBoth s (λ k. task_get_priority k caller id cluster) result clusters.now groups.now clusters.now groups.now }
+{
+    match task_named(clusters, caller, id) {
+        None => Answer::Refused(Status::InvalidId),
+        Some(task) => {
+            // Reading the index tells its range.
+            let _index = task.at();
+            match prio_of(clusters, task, cluster) {
+                None => Answer::Refused(Status::NotDefined),
+                Some(prio) => done(u32::from(prio.level())),
+            }
         }
     }
 }

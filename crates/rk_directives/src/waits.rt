@@ -5,10 +5,11 @@ ghost use Rattle.rk_model.specs.declared.scenario.Scenario.{Scenario as Scenario
 ghost use Rattle.rk_model.specs.declared.state.Armer.TheVariants.{Thread as OfThread};
 ghost use Rattle.rk_model.specs.Directives.Objects.{has_begun};
 ghost use Rattle.rk_model.specs.Directives.Waits.{start_limited, stop_wait, end_wait};
-ghost use Rattle.rk_model.specs.Scheduling.Priorities.{home_prio};
+ghost use Rattle.rk_parts.specs.Contributions.{IsOne};
+ghost use Rattle.rk_parts.specs.Lending.{home_prio_lent};
 ghost use Rattle.rk_model.specs.Scheduling.Timers.{times_armed};
 ghost use Rattle.rk_directives.specs.Does.{AllLive, Becomes, BecomesBoth, woken};
-ghost use Rattle.rk_parts.specs.Joined.{lent, thread_lent, timers_lent};
+ghost use Rattle.rk_parts.specs.Joined.{thread_lent, timers_lent};
 ghost use Rattle.rk_parts.specs.Lent.{Puts};
 
 use rk_groups::group::GroupPart;
@@ -24,8 +25,11 @@ use rk_parts::timers::{arm, cancel};
 pub(crate) fn caller_of(clusters: &[ClusterPart], caller: ThreadIx) -> Caller
     ensures thread { result.thread ≡ caller }
     ensures home { result.home ≡ (thread_lent clusters.now caller).home }
-    ensures prio { result.prio ≡ home_prio (lent clusters.now) caller }
+    ensures prio { result.prio ≡ home_prio_lent clusters.now caller }
+    ensures one { IsOne caller }
 {
+    // Reading the index tells its range.
+    let _index = caller.at();
     Caller {
         thread: caller,
         home: thread_of(clusters, caller).home,

@@ -2,7 +2,7 @@
 use Rattle.std.proofs.Common.{◌≡◌, ℕ, ◌≤◌, true, false, Option, None, Some, IsSome, arith, refl, sym, ◌∙◌, ap, subst}
 use Rattle.std.proofs.lemmas.Bool.{false≢true}
 use Rattle.rk_model.specs.declared.scenario.Op.{Op}
-use Rattle.rk_model.specs.declared.scenario.Op.TheVariants.{TaskCreate, TaskIdent, TaskStart, TaskSuspend, TaskResume, TaskSetPriority, TaskDelete, TaskWakeAfter, EventSend, EventReceive, SemCreate, SemIdent, SemObtain, SemRelease, SemFlush, SemDelete, BarrierCreate, BarrierIdent, BarrierWait, BarrierRelease, BarrierDelete, PartCreate, PartIdent, PartGet, PartReturn, PartDelete, PeriodCreate, PeriodIdent, PeriodPeriod, PeriodCancel, PeriodDelete}
+use Rattle.rk_model.specs.declared.scenario.Op.TheVariants.{TaskCreate, TaskIdent, TaskStart, TaskSuspend, TaskResume, TaskSetPriority, TaskGetPriority, TaskDelete, TaskWakeAfter, EventSend, EventReceive, SemCreate, SemIdent, SemObtain, SemRelease, SemFlush, SemDelete, SemSetPriority, BarrierCreate, BarrierIdent, BarrierWait, BarrierRelease, BarrierDelete, PartCreate, PartIdent, PartGet, PartReturn, PartDelete, PeriodCreate, PeriodIdent, PeriodPeriod, PeriodCancel, PeriodDelete}
 use Rattle.rk_model.specs.declared.entry.Answer.{Answer}
 use Rattle.rk_model.specs.declared.entry.Reply.{Reply}
 use Rattle.rk_model.specs.declared.state.Thread.{Thread}
@@ -21,12 +21,12 @@ use Rattle.rk_directives.proofs.GentleChangeLemmas.{gentle_same, gentle_put, gen
 use Rattle.rk_directives.proofs.OutcomeLemmas.{op_of, IsFair, fair_changed, fair_after}
 use Rattle.rk_model.proofs.IndexLemmas.{nth-with_same}
 use Rattle.rk_directives.proofs.DirectiveLemmas.BarriersLemmas.{barrier_create_fair, barrier_ident_fair, barrier_wait_fair, barrier_release_fair, barrier_delete_fair}
-use Rattle.rk_directives.proofs.DirectiveLemmas.SemaphoresLemmas.{semaphore_create_fair, semaphore_ident_fair, semaphore_obtain_fair, semaphore_release_fair, semaphore_flush_fair, semaphore_delete_fair}
+use Rattle.rk_directives.proofs.DirectiveLemmas.SemaphoresLemmas.{semaphore_create_fair, semaphore_ident_fair, semaphore_obtain_fair, semaphore_release_fair, semaphore_flush_fair, semaphore_delete_fair, semaphore_set_priority_fair}
 use Rattle.rk_directives.proofs.DirectiveLemmas.PartitionsLemmas.{partition_create_fair, partition_ident_fair, partition_get_fair, partition_return_fair, partition_delete_fair}
 use Rattle.rk_directives.proofs.DirectiveLemmas.PeriodsLemmas.{period_create_fair, period_ident_fair, period_period_fair, period_cancel_fair, period_delete_fair, period_create_sound, period_ident_sound, period_period_sound, period_cancel_sound, period_delete_sound}
 use Rattle.rk_directives.proofs.DirectiveLemmas.KeptPeriodsLemmas.{line_keeps, back_keeps}
 use Rattle.rk_directives.proofs.DirectiveLemmas.EventsLemmas.{event_send_fair, event_receive_fair}
-use Rattle.rk_directives.proofs.DirectiveLemmas.TasksLemmas.{task_create_fair, task_ident_fair, task_start_fair, task_suspend_fair, task_resume_fair, task_set_priority_fair, task_delete_fair, task_exit_fair, task_wake_after_fair}
+use Rattle.rk_directives.proofs.DirectiveLemmas.TasksLemmas.{task_create_fair, task_ident_fair, task_start_fair, task_suspend_fair, task_resume_fair, task_set_priority_fair, task_get_priority_fair, task_delete_fair, task_exit_fair, task_wake_after_fair}
 
 -- each directive is fair
 line_fair : (k : Plain) (t : ℕ) (op : Op) → op_of k t ≡ Some op → IsCaller k t → IsFair k t (directive k t (Some op))
@@ -36,16 +36,19 @@ line_fair k t (TaskStart id body) is caller = task_start_fair k t id body caller
 line_fair k t (TaskSuspend id) is caller = task_suspend_fair k t id caller
 line_fair k t (TaskResume id) is caller = task_resume_fair k t id caller
 line_fair k t (TaskSetPriority id prio var) is caller = task_set_priority_fair k t id prio caller
+line_fair k t (TaskGetPriority id cluster var) is caller = task_get_priority_fair k t id cluster caller
 line_fair k t (TaskDelete id) is caller = task_delete_fair k t id caller
 line_fair k t (TaskWakeAfter n) is caller = task_wake_after_fair k t n caller
 line_fair k t (EventSend id set) is caller = event_send_fair k t id set caller
 line_fair k t (EventReceive set all wish var) is caller = event_receive_fair k t set all wish caller
-line_fair k t (SemCreate name spec var) is caller = semaphore_create_fair k t name.bits spec caller
+line_fair k t (SemCreate name count kind order protocol ceiling var) is caller =
+    semaphore_create_fair k t name.bits (record { count = count; kind = kind; order = order; protocol = protocol; ceiling = ceiling }) caller
 line_fair k t (SemIdent name var) is caller = semaphore_ident_fair k t name.bits caller
 line_fair k t (SemObtain id wish) is caller = semaphore_obtain_fair k t id wish caller
 line_fair k t (SemRelease id) is caller = semaphore_release_fair k t id caller
 line_fair k t (SemFlush id) is caller = semaphore_flush_fair k t id caller
 line_fair k t (SemDelete id) is caller = semaphore_delete_fair k t id caller
+line_fair k t (SemSetPriority id cluster prio var) is caller = semaphore_set_priority_fair k t id cluster prio caller
 line_fair k t (BarrierCreate name automatic most var) is caller = barrier_create_fair k t name.bits automatic most caller
 line_fair k t (BarrierIdent name var) is caller = barrier_ident_fair k t name.bits caller
 line_fair k t (BarrierWait id ticks) is caller = barrier_wait_fair k t id ticks caller

@@ -5,7 +5,7 @@ use Rattle.rk_model.specs.declared.entry.Reply.{Reply}
 use Rattle.rk_model.specs.declared.ids.Class.{Class}
 use Rattle.rk_model.specs.declared.ids.Class.TheVariants.{Task, Semaphore, Barrier, Partition}
 use Rattle.rk_model.specs.declared.scenario.Op.{Op}
-use Rattle.rk_model.specs.declared.scenario.Op.TheVariants.{Work, Goto, TaskCreate, TaskIdent, TaskStart, TaskSuspend, TaskResume, TaskSetPriority, TaskDelete, TaskWakeAfter, EventSend, EventReceive, SemCreate, SemIdent, SemObtain, SemRelease, SemFlush, SemDelete, BarrierCreate, BarrierIdent, BarrierWait, BarrierRelease, BarrierDelete, PartCreate, PartIdent, PartGet, PartReturn, PartDelete, PeriodCreate, PeriodIdent, PeriodPeriod, PeriodCancel, PeriodDelete}
+use Rattle.rk_model.specs.declared.scenario.Op.TheVariants.{Work, Goto, TaskCreate, TaskIdent, TaskStart, TaskSuspend, TaskResume, TaskSetPriority, TaskGetPriority, TaskDelete, TaskWakeAfter, EventSend, EventReceive, SemCreate, SemIdent, SemObtain, SemRelease, SemFlush, SemDelete, SemSetPriority, BarrierCreate, BarrierIdent, BarrierWait, BarrierRelease, BarrierDelete, PartCreate, PartIdent, PartGet, PartReturn, PartDelete, PeriodCreate, PeriodIdent, PeriodPeriod, PeriodCancel, PeriodDelete}
 use Rattle.rk_model.specs.declared.scenario.Target.{Target}
 use Rattle.rk_model.specs.declared.semaphore.SemSpec.{SemSpec}
 use Rattle.rk_model.specs.declared.scenario.Wish.{Wish}
@@ -21,16 +21,17 @@ use Rattle.rk_model.specs.declared.status.Status.TheVariants.{Successful, Unsati
 use Rattle.rk_model.specs.Lists.{nth, times}
 use Rattle.rk_model.specs.Names.{taken, least_named}
 use Rattle.rk_model.specs.State.{Plain, SemaphoreState, PeriodState, objects_of, no_thread, no_semaphore, no_period, thread_at, put_thread, semaphore_at, put_semaphore, barrier_at, partition_at, period_at}
+use Rattle.rk_model.specs.Scheduling.Priorities.{prio}
 use Rattle.rk_model.specs.Scheduling.Timers.{cancel}
 use Rattle.rk_model.specs.Directives.Objects.{has_begun, names_in, put_names, object_named, bits_of, create_at, unless, create, on_named, ident}
 use Rattle.rk_model.specs.Directives.Outcomes.{Outcome, Refused, Done, Waiting, Gone, on_found, changed, arrived}
 use Rattle.rk_model.specs.Directives.Waits.{OfBarrier, OfSemaphore, object_of_wait, is_for, leave, bare}
-use Rattle.rk_model.specs.Directives.Tasks.{task_named, dormant_in, prio_refusal, task_create, task_ident, is_dormant, with_started, task_start, with_suspended, task_suspend, task_resume, task_set_priority, without_task, has_created, task_delete, task_exit, task_wake_after}
+use Rattle.rk_model.specs.Directives.Tasks.{task_named, dormant_in, prio_refusal, task_create, task_ident, is_dormant, with_started, task_start, with_suspended, task_suspend, task_resume, task_set_priority, told_prio, task_get_priority, without_task, has_created, task_delete, task_exit, task_wake_after}
 use Rattle.rk_model.specs.Directives.Events.{seized, left_of, with_pending, with_seized, seized_by, sent, event_send, receive_later, receive_by, event_receive}
 use Rattle.rk_model.specs.Directives.Barriers.{most_refusal, barrier_create, barrier_ident, end_at, is_full, barrier_wait, barrier_release, without_barrier, barrier_delete}
 use Rattle.rk_model.specs.Directives.Partitions.{is_out, is_in_use, memory_refusal, partition_create, partition_ident, taken_first, partition_get, partition_return, partition_delete}
 use Rattle.rk_model.specs.Directives.Periods.{is_awaited}
-use Rattle.rk_model.specs.Directives.Semaphores.{is_mrsp, is_owned, Obtaining, Nests, Takes, NotObtained, Enters, Releasing, NotReleased, Unnests, Serves, Frees, handed_to, flushed, up_to_date, semaphore_create, semaphore_ident, obtained_at, semaphore_obtain, served_at, released_at, semaphore_release, emptied_at, semaphore_flush, without_semaphore, semaphore_delete, has_obtained}
+use Rattle.rk_model.specs.Directives.Semaphores.{is_mrsp, is_owned, Obtaining, Nests, Takes, NotObtained, Enters, Releasing, NotReleased, Unnests, Serves, Frees, handed_to, flushed, up_to_date, semaphore_create, semaphore_ident, obtained_at, semaphore_obtain, served_at, released_at, semaphore_release, emptied_at, semaphore_flush, without_semaphore, semaphore_delete, CeilingSetting, NotSet, Keeps, Sets, set_at, semaphore_set_priority, has_obtained}
 use Rattle.rk_model.specs.Steps.{directive, back}
 use Rattle.rk_model.proofs.BooleanLemmas.{equal_test, or_back, neither_back}
 use Rattle.rk_directives.specs.Calls.{IsActing}
@@ -137,6 +138,13 @@ task_resume_keeps k t id = keeps_found k (task_named k t id) _ (λ u _. keeps_if
 pub task_set_priority_keeps : (k : Plain) (t : ℕ) (id : Target) (prio : ℕ) → LeavesPeriods k (task_set_priority k t id prio)
 task_set_priority_keeps k t id prio = keeps_found k (task_named k t id) _ (λ u _. keeps_if k (nat_lt 255 prio) _ _ (λ _. keeps_refused k _) (λ _. keeps_if k (eqb prio 0) _ _ (λ _. keeps_done k _ _ _ _ (keeps_same k))
     (λ _. keeps_done k _ _ _ _ (keeps_put k u (record (thread_at k u) { base = prio }) refl))))
+
+told_keeps : (k : Plain) (o : Option ℕ) → LeavesPeriods k (told_prio k o)
+told_keeps k None = keeps_refused k _
+told_keeps k (Some p) = keeps_done k _ _ _ _ (keeps_same k)
+
+pub task_get_priority_keeps : (k : Plain) (t : ℕ) (id : Target) (c : ℕ) → LeavesPeriods k (task_get_priority k t id c)
+task_get_priority_keeps k t id c = keeps_found k (task_named k t id) _ (λ u _. told_keeps k (prio k u c))
 
 -- who created a live period is found among the creators
 created_one : (periods : List PeriodState) (i u : ℕ) → (nth no_period periods i).live ≡ true → (nth no_period periods i).creator ≡ u → has_created periods u ≡ true
@@ -317,6 +325,14 @@ pub semaphore_delete_keeps : (k : Plain) (t : ℕ) (id : Target) → IsSound k �
 semaphore_delete_keeps k t id sound = keeps_found k (object_named k t Semaphore id) _ (λ i _. keeps_if k (is_owned (semaphore_at k i)) _ _ (λ _. keeps_refused k _)
     (λ _. keeps_done k _ _ _ _ (keeps_then k (emptied_at k i no_semaphore ObjectWasDeleted) (without_semaphore k i) (emptied_keeps k i no_semaphore ObjectWasDeleted sound) (keeps_names (emptied_at k i no_semaphore ObjectWasDeleted) (without_semaphore k i).table))))
 
+setting_keeps : (k : Plain) (i c prio : ℕ) (setting : CeilingSetting) → LeavesPeriods k (set_at k i c prio setting)
+setting_keeps k i c prio (NotSet status) = keeps_refused k status
+setting_keeps k i c prio Keeps = keeps_done k _ _ _ _ (keeps_same k)
+setting_keeps k i c prio Sets = keeps_done k _ _ _ _ (keeps_beside k _ refl refl refl refl)
+
+pub semaphore_set_priority_keeps : (k : Plain) (t : ℕ) (id : Target) (c prio : ℕ) → LeavesPeriods k (semaphore_set_priority k t id c prio)
+semaphore_set_priority_keeps k t id c prio = keeps_found k (object_named k t Semaphore id) _ (λ i _. setting_keeps k i c prio _)
+
 -- ---- the partition manager
 
 pub partition_create_keeps : (k : Plain) (name start length size : ℕ) → LeavesPeriods k (partition_create k name start length size)
@@ -365,16 +381,19 @@ op_leaves k t (TaskStart id body) acts other = task_start_keeps k t id body
 op_leaves k t (TaskSuspend id) acts other = task_suspend_keeps k t id
 op_leaves k t (TaskResume id) acts other = task_resume_keeps k t id
 op_leaves k t (TaskSetPriority id prio var) acts other = task_set_priority_keeps k t id prio
+op_leaves k t (TaskGetPriority id cluster var) acts other = task_get_priority_keeps k t id cluster
 op_leaves k t (TaskDelete id) acts other = task_delete_keeps k t id acts.sound
 op_leaves k t (TaskWakeAfter n) acts other = task_wake_after_keeps k t n acts.waits_not
 op_leaves k t (EventSend id set) acts other = event_send_keeps k t id set
 op_leaves k t (EventReceive set all wish var) acts other = event_receive_keeps k t set all wish acts.waits_not
-op_leaves k t (SemCreate name spec var) acts other = semaphore_create_keeps k t name.bits spec
+op_leaves k t (SemCreate name count kind order protocol ceiling var) acts other =
+    semaphore_create_keeps k t name.bits (record { count = count; kind = kind; order = order; protocol = protocol; ceiling = ceiling })
 op_leaves k t (SemIdent name var) acts other = semaphore_ident_keeps k name.bits
 op_leaves k t (SemObtain id wish) acts other = semaphore_obtain_keeps k t id wish acts.waits_not
 op_leaves k t (SemRelease id) acts other = semaphore_release_keeps k t id acts.sound
 op_leaves k t (SemFlush id) acts other = semaphore_flush_keeps k t id acts.sound
 op_leaves k t (SemDelete id) acts other = semaphore_delete_keeps k t id acts.sound
+op_leaves k t (SemSetPriority id cluster prio var) acts other = semaphore_set_priority_keeps k t id cluster prio
 op_leaves k t (BarrierCreate name automatic most var) acts other = barrier_create_keeps k name.bits automatic most
 op_leaves k t (BarrierIdent name var) acts other = barrier_ident_keeps k name.bits
 op_leaves k t (BarrierWait id ticks) acts other = barrier_wait_keeps k t id ticks acts.sound acts.waits_not

@@ -335,6 +335,7 @@ removes s old new groups groups' table table' i wakes low high queue puts woke b
           ∙ ap (λ (n : Plain). without_object n Barrier i) (sym gone);
       laid = λ laid. laid_kept s.clusters old new becomes.kept laid;
       kept = ap (λ (f : Frame). f.stored) becomes.kept;
+      accounts = ap (λ (f : Frame). f.accounts) becomes.kept;
       framed = puts.kept;
       held = still_held old new groups groups' becomes.held (same_owners groups groups' puts.semaphores);
     }
@@ -350,6 +351,7 @@ deletes_barrier s old new groups groups' table table' t i id answer found is bec
       state = λ laid. becomes.state laid ∙ ap (λ o. changed k (delete_row k o)) (sym found);
       laid = becomes.laid;
       kept = becomes.kept;
+      accounts = becomes.accounts;
       framed = becomes.framed;
       held = becomes.held;
     }
@@ -362,6 +364,7 @@ deletes_none s old groups table t id found =
       state = λ laid. ap (λ o. changed k (delete_row k o)) (sym found);
       laid = λ laid. laid;
       kept = refl;
+      accounts = refl;
       framed = refl;
       held = λ h. h;
     }

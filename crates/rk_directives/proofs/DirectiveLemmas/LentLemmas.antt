@@ -1,5 +1,5 @@
 -- What directives do to the parts that are lent, step by step.
-use Rattle.std.proofs.Common.{◌≡◌, ◌≢◌, ℕ, ◌+◌, ◌<◌, List, [], ◌∷◌, ◌++◌, Bool, true, false, cond, ◌==◌, ◌||◌, Option, Some, None, length, arith, refl, sym, ap, ◌∙◌, subst}
+use Rattle.std.proofs.Common.{◌≡◌, ◌≢◌, ℕ, ◌+◌, ◌<◌, List, [], ◌∷◌, ◌++◌, Bool, true, false, cond, ◌==◌, ◌||◌, nat_lt, Option, Some, None, length, arith, refl, sym, ap, ◌∙◌, subst}
 use Rattle.std.specs.Prelude.{IsSome}
 use Rattle.std.proofs.lemmas.Bool.{false≢true}
 use Rattle.std.proofs.lemmas.Bool.Decides.{nat_tests}
@@ -7,23 +7,25 @@ use Rattle.rk_model.specs.declared.entry.Reply.{Reply}
 use Rattle.rk_model.specs.declared.ids.Class.TheVariants.{Task}
 use Rattle.rk_model.specs.declared.scenario.Scenario.{Scenario}
 use Rattle.rk_model.specs.declared.scenario.Target.{Target}
-use Rattle.rk_model.specs.declared.status.Status.TheVariants.{Successful, InvalidId, ResourceInUse}
+use Rattle.rk_model.specs.declared.status.Status.TheVariants.{Successful, InvalidId, InvalidPriority, NotDefined, ResourceInUse}
 use Rattle.rk_model.specs.declared.state.Armed.{Armed}
 use Rattle.rk_model.specs.declared.state.Armer.TheVariants.{Thread as OfThread}
 use Rattle.rk_model.specs.declared.state.Thread.{Thread}
 use Rattle.rk_model.specs.declared.state.Wait.{Wait}
 use Rattle.rk_model.specs.declared.state.Wait.TheVariants.{ForTime}
+use Rattle.rk_model.specs.declared.limits.TheConstants.{LEAST_URGENT}
 use Rattle.rk_model.specs.Lists.{nth}
+use Rattle.rk_model.specs.Scheduling.Priorities.{contribution, home_prio, is_behind, own, prio}
 use Rattle.rk_model.specs.Names.{Table}
 use Rattle.rk_model.specs.State.{Plain, no_thread, thread_at, put_thread}
 use Rattle.rk_model.specs.Scheduling.Timers.{times_armed, arm, cancel, without_timer}
 use Rattle.rk_model.specs.Directives.Objects.{has_begun, without_object}
 use Rattle.rk_model.specs.declared.entry.Answer.{Answer}
 use Rattle.rk_model.specs.declared.entry.Answer.TheVariants as told
-use Rattle.rk_model.specs.Directives.Outcomes.{Outcome, Refused, Gone, Waiting, done, on_found, answer_of, changed}
+use Rattle.rk_model.specs.Directives.Outcomes.{Outcome, Refused, Done, Gone, Waiting, done, on_found, answer_of, changed}
 use Rattle.rk_model.specs.Directives.Waits.{object_of_wait, start_wait, start_limited, begin_limited, stop_wait, end_wait}
 use Rattle.rk_model.specs.Directives.Semaphores.{has_obtained}
-use Rattle.rk_model.specs.Directives.Tasks.{task_named, has_created, task_removed, task_delete, without_task}
+use Rattle.rk_model.specs.Directives.Tasks.{task_named, has_created, task_removed, task_delete, task_get_priority, task_set_priority, told_prio, with_base, without_task}
 use Rattle.rk_parts.specs.declared.parts.ClusterPart.{ClusterPart}
 use Rattle.rk_groups.specs.declared.group.GroupPart.{GroupPart}
 use Rattle.rk_parts.specs.declared.parts.AllParts.{AllParts}
@@ -42,7 +44,7 @@ use Rattle.rk_parts.proofs.HeldLemmas.{lives_found, found_lives, held_found}
 use Rattle.rk_parts.proofs.LayoutLemmas.{lie}
 use Rattle.rk_parts.proofs.SettledPartLemmas.{thread_any}
 use Rattle.rk_directives.specs.Calls.{IsActing}
-use Rattle.rk_directives.specs.Does.{Becomes, BecomesBoth, BecomesEvery, Does, DoesBoth, DoesEvery, DoesGroups, DoesWide, DoesAll, Tells, with_table}
+use Rattle.rk_directives.specs.Does.{Becomes, BecomesBoth, BecomesEvery, Does, DoesBoth, DoesEvery, DoesGroups, DoesWide, DoesAll, Tells, lent_both, with_table}
 use Rattle.rk_directives.proofs.KeptHoldingLemmas.{still_held, left_owners}
 use Rattle.rk_directives.proofs.OutcomeLemmas.{none_armed}
 
@@ -124,6 +126,7 @@ deleted s old mid new groups groups' table table' t wait is leaves cancelled rep
       ∙ ap (λ (n : Plain). without_object (put_thread (cancel n (thread_lent old t).home (OfThread t)) t no_thread) Task t) (left_joined s table old groups groups' t wait is leaves);
   laid = λ laid. replaces.laid s.clusters (laid_kept s.clusters old mid cancelled.kept laid) (λ h. absurd (false≢true h));
   kept = replaces.kept ∙ ap (λ (f : Frame). f.stored) cancelled.kept;
+  accounts = replaces.accounts ∙ ap (λ (f : Frame). f.accounts) cancelled.kept;
   framed = leaves.kept;
   held = still_held old new groups groups' (replaces.held ∙ cancelled.held) (left_owners groups groups' t (object_of_wait wait) leaves);
 }
@@ -188,6 +191,7 @@ unknown_every s old groups table named row none =
       state = λ laid. ap (λ o. changed k (on_found o (row k))) (sym none);
       laid = λ laid. laid;
       kept = refl;
+      accounts = refl;
       framed = refl;
       held = λ h. h;
     }
@@ -200,6 +204,7 @@ found_every s old new groups groups' table table' named row i answer found does 
       state = λ laid. does.state laid ∙ ap (λ o. changed k (on_found o (row k))) (sym found);
       laid = does.laid;
       kept = does.kept;
+      accounts = does.accounts;
       framed = does.framed;
       held = does.held;
     }
@@ -213,6 +218,7 @@ found_grouped s old groups groups' table table' named row i answer found does =
       state = λ laid. does.state old ∙ ap (λ o. changed k (on_found o (row k))) (sym found);
       laid = λ laid. laid;
       kept = refl;
+      accounts = refl;
       framed = does.framed;
       held = still_held old old groups groups' refl does.owners;
     }
@@ -231,6 +237,65 @@ waits s row change old new is becomes = record {
 -- a sleep stands in no queue
 pub later : (old new : List ClusterPart) (t ticks : ℕ) (s : Scenario) → Becomes s (λ k. start_limited k t ForTime ticks) old new → Becomes s (λ k. begin_limited k t ForTime ticks) old new
 later old new t ticks s becomes = record { state = becomes.state; kept = becomes.kept; held = becomes.held }
+
+-- the priority of a thread in its home is the same in each state that the parts stand for
+pub home_prio_lent : (s : Scenario) (table : Table) (parts : List ClusterPart) (groups : List GroupPart) (t : ℕ) → home_prio (lent_both parts groups) t ≡ home_prio (joined s table parts groups) t
+unfolding home_prio prio contribution is_behind own
+home_prio_lent s table parts groups t = refl
+
+-- and so is that in any cluster
+prio_both : (s : Scenario) (table : Table) (parts : List ClusterPart) (groups : List GroupPart) (t c : ℕ) → prio (lent_both parts groups) t c ≡ prio (joined s table parts groups) t c
+unfolding prio contribution is_behind own
+prio_both s table parts groups t c = refl
+
+-- what is answered where a task has this priority, or none
+abbrev told_by : Option ℕ → Answer
+told_by None = told.Refused NotDefined
+told_by (Some p) = told.Done Successful p None
+
+answer_told : (k : Plain) (o : Option ℕ) → answer_of (told_prio k o) ≡ told_by o
+answer_told k None = refl
+answer_told k (Some p) = refl
+
+changed_told : (k : Plain) (o : Option ℕ) → changed k (told_prio k o) ≡ k
+changed_told k None = refl
+changed_told k (Some p) = refl
+
+-- the priority of a task in a cluster was told
+pub tells_prio : (s : Scenario) (old : List ClusterPart) (groups : List GroupPart) (t u c : ℕ) (id : Target) (o : Option ℕ) (answer : Answer) → task_named (lent old) t id ≡ Some u → o ≡ prio (lent_both old groups) u c → answer ≡ told_by o → DoesBoth s (λ k. task_get_priority k t id c) answer old groups old groups
+tells_prio s old groups t u c id o answer found same is = record {
+  told = λ table. (let k = joined s table old groups in is ∙ ap told_by (same ∙ prio_both s table old groups u c) ∙ sym (answer_told k (prio k u c)) ∙ ap (λ f. answer_of (on_found f (λ v. told_prio k (prio k v c)))) (sym found));
+  state = λ table laid. (let k = joined s table old groups in sym (changed_told k (prio k u c)) ∙ ap (λ f. changed k (on_found f (λ v. told_prio k (prio k v c)))) (sym found));
+  kept = refl;
+  framed = refl;
+  held = λ h. h;
+}
+
+-- the rule, by what was found
+abbrev set_row : Plain → ℕ → Option ℕ → Outcome
+set_row k prio o = on_found o (λ u. cond (nat_lt LEAST_URGENT prio) (Refused InvalidPriority) (cond (prio == 0) (done (home_prio k u) k) (Done Successful (home_prio k u) (with_base k u prio) (Some u))))
+
+-- the priority of a task in its home was told
+pub tells_priority : (s : Scenario) (old : List ClusterPart) (groups : List GroupPart) (t u before : ℕ) (id : Target) → task_named (lent old) t id ≡ Some u → before ≡ home_prio (lent_both old groups) u → DoesBoth s (λ k. task_set_priority k t id 0) (told.Done Successful before None) old groups old groups
+tells_priority s old groups t u before id found is = record {
+  told = λ table. (let k = joined s table old groups in ap (λ p. told.Done Successful p None) (is ∙ home_prio_lent s table old groups u) ∙ ap (λ o. answer_of (set_row k 0 o)) (sym found));
+  state = λ table laid. (let k = joined s table old groups in ap (λ o. changed k (set_row k 0 o)) (sym found));
+  kept = refl;
+  framed = refl;
+  held = λ h. h;
+}
+
+-- and its base priority was set
+pub sets_priority : (s : Scenario) (old new : List ClusterPart) (groups : List GroupPart) (t u prio base before : ℕ) (id : Target) → task_named (lent old) t id ≡ Some u → nat_lt LEAST_URGENT prio ≡ false → (prio == 0) ≡ false → base ≡ prio → before ≡ home_prio (lent_both old groups) u → Puts old u (record (thread_lent old u) { base = base }) new → DoesBoth s (λ k. task_set_priority k t id prio) (told.Done Successful before (Some u)) old groups new groups
+sets_priority s old new groups t u prio base before id found few some same is puts =
+    let row : (k : Plain) → set_row k prio (Some u) ≡ Done Successful (home_prio k u) (with_base k u prio) (Some u) = λ k. rw (few, some) refl in
+    record {
+      told = λ table. (let k = joined s table old groups in ap (λ p. told.Done Successful p (Some u)) (is ∙ home_prio_lent s table old groups u) ∙ ap answer_of (sym (row k)) ∙ ap (λ o. answer_of (set_row k prio o)) (sym found));
+      state = λ table laid. (let k = joined s table old groups in puts_state s table groups old new u _ puts ∙ ap (with_base k u) same ∙ ap (changed k) (sym (row k)) ∙ ap (λ o. changed k (set_row k prio o)) (sym found));
+      kept = puts.kept;
+      framed = refl;
+      held = still_held old new groups groups puts.held (λ i. refl);
+    }
 
 -- the rule, by what was found
 abbrev delete_row : Plain → ℕ → Option ℕ → Outcome
@@ -253,6 +318,7 @@ deletes s old new groups groups' table table' t u id answer found free is become
       state = λ laid. becomes.state laid ∙ sym (ap (λ o. changed k (delete_row k t o)) found ∙ ap (λ b. changed k (cond b (Refused ResourceInUse) (task_removed k t u))) free ∙ changed_by (u == t) k (without_task k u));
       laid = becomes.laid;
       kept = becomes.kept;
+      accounts = becomes.accounts;
       framed = becomes.framed;
       held = becomes.held;
     }
@@ -266,6 +332,7 @@ deletes_not s old groups table t u id found created =
       state = λ laid. sym (ap (λ o. changed k (delete_row k t o)) found ∙ ap (λ b. changed k (cond b (Refused ResourceInUse) (task_removed k t u))) created);
       laid = λ laid. laid;
       kept = refl;
+      accounts = refl;
       framed = refl;
       held = λ h. h;
     }
@@ -279,6 +346,7 @@ all_narrow all new row answer whole does = record {
   state = does.state all.table.names all.groups whole.laid;
   laid = laid_kept all.scenario.clusters all.clusters new does.kept whole.laid;
   kept = ap (λ (f : Frame). f.stored) does.kept;
+  accounts = ap (λ (f : Frame). f.accounts) does.kept;
   held = still_held all.clusters new all.groups all.groups does.held (λ i. refl) whole.held;
   rest = refl;
 }
@@ -290,6 +358,7 @@ all_both all new groups row answer whole does = record {
   state = does.state all.table.names whole.laid;
   laid = laid_kept all.scenario.clusters all.clusters new does.kept whole.laid;
   kept = ap (λ (f : Frame). f.stored) does.kept;
+  accounts = ap (λ (f : Frame). f.accounts) does.kept;
   held = does.held whole.held;
   rest = λ i. record { scenario = all.scenario; groups = does.framed i; time = all.table.present };
 }
@@ -301,6 +370,7 @@ all_every all new groups table row answer whole does = record {
   state = does.state whole.laid;
   laid = does.laid whole.laid;
   kept = does.kept;
+  accounts = does.accounts;
   held = does.held whole.held;
   rest = λ i. record { scenario = all.scenario; groups = does.framed i; time = all.table.present };
 }
@@ -312,6 +382,7 @@ all_grouped all groups table row answer whole does = record {
   state = does.state all.clusters;
   laid = whole.laid;
   kept = refl;
+  accounts = refl;
   held = still_held all.clusters all.clusters all.groups groups refl does.owners whole.held;
   rest = λ i. record { scenario = all.scenario; groups = does.framed i; time = all.table.present };
 }
@@ -323,13 +394,14 @@ all_wide all new table row answer whole does = record {
   state = does.state all.groups whole.laid;
   laid = does.laid whole.laid;
   kept = does.kept;
+  accounts = does.accounts;
   held = still_held all.clusters new all.groups all.groups does.held (λ i. refl) whole.held;
   rest = refl;
 }
 
 -- a row that changes nothing
 pub all_tells : (all : AllParts) (o : Outcome) (answer : Answer) → AreWhole all → Tells o answer (plain_of all) → DoesAll o answer all all
-all_tells all o answer whole tells = record { told = tells.told; state = sym tells.state; laid = whole.laid; kept = refl; held = whole.held; rest = refl }
+all_tells all o answer whole tells = record { told = tells.told; state = sym tells.state; laid = whole.laid; kept = refl; accounts = refl; held = whole.held; rest = refl }
 
 lives_acting : (all : AllParts) (t : ℕ) → IsActing (plain_of all) t → has_begun (thread_lent all.clusters t).life ≡ true
 lives_acting all t acts = ap has_begun acts.started

@@ -327,6 +327,7 @@ ends_period s old new groups groups' table table' i by reply answer creator puts
           ∙ ap (changed k) (sym row);
       laid = λ laid. laid_kept s.clusters old new stops.kept laid;
       kept = ap (λ (f : Frame). f.stored) stops.kept;
+      accounts = ap (λ (f : Frame). f.accounts) stops.kept;
       framed = puts.kept;
       held = still_held old new groups groups' stops.held (same_owners groups groups' puts.semaphores);
     }
@@ -342,6 +343,7 @@ ends_not s old groups groups' table i reply puts is status =
       state = λ laid. put_still s table old groups groups' i _ (ap (λ b. cond b period no_period) awaited) puts ∙ ap (changed k) (sym row);
       laid = λ laid. laid;
       kept = refl;
+      accounts = refl;
       framed = puts.kept;
       held = still_held old old groups groups' refl (same_owners groups groups' puts.semaphores);
     }

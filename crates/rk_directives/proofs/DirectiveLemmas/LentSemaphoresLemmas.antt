@@ -1,7 +1,6 @@
 -- What the directives of the semaphore manager do to lent parts.
-use Rattle.std.proofs.Common.{◌≡◌, ◌⊎◌, inl, inr, ℕ, zero, suc, ◌+◌, ◌-◌, ◌≤◌, List, [], ◌∷◌, Bool, true, false, cond, not, ◌==◌, ◌&&◌, ◌||◌, nat_lt, map, take, slice_get, Option, Some, None, Ok, Err, IfSome, IfNone, length, arith, refl, sym, ap, ◌∙◌, subst}
+use Rattle.std.proofs.Common.{◌≡◌, ◌≢◌, ◌⊎◌, inl, inr, ℕ, ◌-◌, ◌≤◌, List, [], ◌∷◌, Bool, true, false, cond, not, ◌==◌, ◌&&◌, ◌||◌, nat_lt, map, Option, Some, None, Ok, Err, IfSome, IfNone, arith, refl, sym, ap, ◌∙◌, subst}
 use Rattle.std.proofs.lemmas.Bool.{false≢true}
-use Rattle.std.proofs.lemmas.List.{length-map, take_all}
 use Rattle.rk_model.specs.declared.entry.Answer.{Answer}
 use Rattle.rk_model.specs.declared.entry.Answer.TheVariants as told
 use Rattle.rk_model.specs.declared.entry.Reply.{Reply}
@@ -16,7 +15,7 @@ use Rattle.rk_model.specs.declared.semaphore.SemKind.TheVariants.{Counting, Simp
 use Rattle.rk_model.specs.declared.semaphore.SemSpec.{SemSpec}
 use Rattle.rk_model.specs.declared.state.Wait.TheVariants.{ForSemaphore}
 use Rattle.rk_model.specs.declared.status.Status.{Status}
-use Rattle.rk_model.specs.declared.status.Status.TheVariants.{Successful, NotDefined, ResourceInUse, Unsatisfied, IncorrectState, NotOwnerOfResource, ObjectWasDeleted, Waits}
+use Rattle.rk_model.specs.declared.status.Status.TheVariants.{Successful, InvalidNumber, NotDefined, ResourceInUse, Unsatisfied, IncorrectState, InvalidPriority, NotOwnerOfResource, ObjectWasDeleted, Waits}
 use Rattle.rk_model.specs.declared.waiting.Caller.{Caller}
 use Rattle.rk_model.specs.declared.waiting.Order.{Order}
 use Rattle.rk_model.specs.declared.waiting.Order.TheVariants.{Fifo, Priority}
@@ -25,22 +24,23 @@ use Rattle.rk_model.specs.declared.waiting.Waiter.{Waiter}
 use Rattle.rk_model.specs.Ids.{id_of}
 use Rattle.rk_model.specs.Lists.{has, nth, with_nth}
 use Rattle.rk_model.specs.Names.{Table}
-use Rattle.rk_model.specs.Queues.{Queue, threads, clusters, with_prio, first_of, first_in, served_by, ended, IsQueue}
+use Rattle.rk_model.specs.Queues.{Queue, threads, clusters, first_of, first_in, served_by, ended, IsQueue}
 use Rattle.rk_model.specs.State.{Plain, SemaphoreState, no_semaphore, semaphore_at, put_semaphore}
 use Rattle.rk_model.specs.Directives.Objects.{has_begun, create, without_object}
 use Rattle.rk_model.specs.Directives.Outcomes.{Outcome, Refused, Waiting, done, answer_of, changed}
-use Rattle.rk_model.specs.Directives.Semaphores.{is_binary, has_protocol, is_mrsp, spec_refusal, status_of_refusal, judged, is_owned, owns, is_free, Obtaining, Nests, Takes, NotObtained, Enters, nesting_by, obtaining_later, obtaining, owned_by, nested, taken, after_obtaining, status_of_obtaining, Releasing, NotReleased, Unnests, Serves, Frees, releasing_to, releasing, unnested, handed_to, freed, freed_by, is_full, after_releasing, status_of_releasing, flushed, after_deleting, with_prio_of, with_present_prio, up_to_date_by, up_to_date, new_semaphore, free_semaphore, create_refusal, semaphore_create, reaches_from, obtained_at, released_at, emptied_at, without_semaphore}
+use Rattle.rk_model.specs.Directives.Semaphores.{is_binary, is_mrsp, has_undefined_protocol, has_great_count, is_owned_mrsp, has_invalid_ceiling, is_below_ceiling, spec_refusal, status_of_refusal, judged, is_owned, owns, is_free, Obtaining, Nests, Takes, NotObtained, Enters, is_elsewhere, is_less, nesting_by, obtaining_again, obtaining_later, obtaining, owned_by, nested, taken, after_obtaining, status_of_obtaining, Releasing, NotReleased, Unnests, Serves, Frees, releasing_to, releasing, unnested, handed_to, freed, freed_by, is_full, after_releasing, status_of_releasing, flushed, after_deleting, with_present_prio, up_to_date_by, up_to_date, new_semaphore, free_semaphore, create_refusal, semaphore_create, reaches_from, obtained_at, released_at, emptied_at, without_semaphore}
 use Rattle.rk_model.specs.Directives.Waits.{OfSemaphore, caller_at, with_waiter, start_limited, begin_limited, stop_wait, stop_each, bare}
-use Rattle.rk_model.specs.Scheduling.Priorities.{prio, home_prio}
-use Rattle.rk_model.proofs.BooleanLemmas.{equal_test, same_number, or_front, or_back}
+use Rattle.rk_model.specs.Scheduling.Priorities.{ceiling_in, home_prio, contribution, is_behind, own, prio}
+use Rattle.rk_model.proofs.BooleanLemmas.{same_number}
 use Rattle.rk_model.proofs.IndexLemmas.{nth-with_same, with_nth-twice}
 use Rattle.rk_queue.proofs.ServiceLemmas.{first_waits, first_none}
 use Rattle.rk_sem.specs.SemaphoreCalls.{obtained, reply_to_obtain, is_serving, serves, released, reply_to_release, woken_by_releasing, woken_by_release, woken_by_flush, woken_by_remove}
 use Rattle.rk_parts.specs.declared.parts.ClusterPart.{ClusterPart}
 use Rattle.rk_groups.specs.declared.group.GroupPart.{GroupPart}
 use Rattle.rk_groups.specs.GroupObjects.{semaphores_of, semaphore_lent}
-use Rattle.rk_parts.specs.Joined.{joined, lent, thread_lent}
+use Rattle.rk_parts.specs.Joined.{joined, thread_lent}
 use Rattle.rk_groups.specs.Groups.{PutsSemaphore, ended_waits}
+use Rattle.rk_parts.specs.Holdings.{held_by, holding_of}
 use Rattle.rk_parts.specs.Lent.{Frame}
 use Rattle.rk_groups.proofs.GroupLemmas.{ended_is, with_nth-still}
 use Rattle.rk_groups.proofs.SemaphoreGroupLemmas.{length_semaphores}
@@ -48,57 +48,72 @@ use Rattle.rk_parts.proofs.GroupJoinedLemmas.{semaphore_joined}
 use Rattle.rk_directives.specs.Calls.{ticks_of, deleted_at}
 use Rattle.rk_directives.specs.Does.{Becomes, BecomesBoth, BecomesEvery, Comes, DoesBoth, DoesEvery, Creates, AllLive, IsQueueOf, KeepsHeld, KeepsOwners, woken, answered, lent_both, with_table}
 use Rattle.rk_directives.proofs.KeptHoldingLemmas.{put_owners, still_held}
-use Rattle.rk_directives.proofs.DirectiveLemmas.LentLemmas.{laid_kept}
+use Rattle.rk_directives.proofs.DirectiveLemmas.LentLemmas.{laid_kept, home_prio_lent}
 use Rattle.rk_directives.proofs.DirectiveLemmas.SemaphoresLemmas.{present_threads, up_to_date_threads, serves_first}
 use Rattle.rk_directives.proofs.DirectiveLemmas.LentBarriersLemmas.{queued_live, enter_first, named_woken}
 
 -- ---- what the parts of clusters say alone
 
--- the priority of a thread in its home is the same in each state that the parts stand for
-home_prio_lent : (s : Scenario) (table : Table) (parts : List ClusterPart) (groups : List GroupPart) (t : ℕ) → home_prio (lent parts) t ≡ home_prio (joined s table parts groups) t
-unfolding home_prio prio
-home_prio_lent s table parts groups t = refl
-
--- so is a queue that is brought up to date
-pub up_to_date_lent : (s : Scenario) (table : Table) (parts : List ClusterPart) (groups : List GroupPart) (sem : SemaphoreState) → up_to_date (lent parts) sem ≡ up_to_date (joined s table parts groups) sem
+-- a queue that is brought up to date is the same in each state that the parts stand for
+pub up_to_date_lent : (s : Scenario) (table : Table) (parts : List ClusterPart) (groups : List GroupPart) (sem : SemaphoreState) → up_to_date (lent_both parts groups) sem ≡ up_to_date (joined s table parts groups) sem
 up_to_date_lent s table parts groups sem = by sem.queue.order where
-  prios : ◌≡◌ {A = Waiter → Waiter} (with_present_prio (lent parts)) (with_present_prio (joined s table parts groups))
+  prios : ◌≡◌ {A = Waiter → Waiter} (with_present_prio (lent_both parts groups)) (with_present_prio (joined s table parts groups))
   prios = λ i waiter. record { thread = waiter.thread; cluster = waiter.cluster; prio = home_prio_lent s table parts groups waiter.thread i }
 
-  by : (order : Order) → (let now : SemaphoreState = record sem { queue = up_to_date_by (lent parts) order sem.queue } in now) ≡ record sem { queue = up_to_date_by (joined s table parts groups) order sem.queue }
+  by : (order : Order) → (let now : SemaphoreState = record sem { queue = up_to_date_by (lent_both parts groups) order sem.queue } in now) ≡ record sem { queue = up_to_date_by (joined s table parts groups) order sem.queue }
   by Fifo = refl
   by Priority = ap (λ (f : Waiter → Waiter). (let now : SemaphoreState = record sem { queue = record sem.queue { arrivals = map f sem.queue.arrivals } } in now)) prios
 
 -- the caller, as its parts have it
-caller_is : (s : Scenario) (table : Table) (parts : List ClusterPart) (groups : List GroupPart) (t : ℕ) (by : Caller) → by.thread ≡ t → by.home ≡ (thread_lent parts t).home → by.prio ≡ home_prio (lent parts) t → by ≡ caller_at (joined s table parts groups) t
+caller_is : (s : Scenario) (table : Table) (parts : List ClusterPart) (groups : List GroupPart) (t : ℕ) (by : Caller) → by.thread ≡ t → by.home ≡ (thread_lent parts t).home → by.prio ≡ home_prio (lent_both parts groups) t → by ≡ caller_at (joined s table parts groups) t
 caller_is s table parts groups t by thread home urgency = λ i. record { thread = thread i; home = home i; prio = (urgency ∙ home_prio_lent s table parts groups t) i }
 
 -- ---- obtain
 
+-- With this status the caller is refused, and doesn't wait.
+record IsRefusal (status : Status) : Type 0 where
+  answers : answered (bare status) ≡ told.Refused status
+  goes_on : status ≢ Waits
+
 -- what holds of each form of an obtain holds of what it comes to
-by_obtaining : (P : Obtaining → Type 0) (t : ℕ) (wish : Wish) (closes : Bool) (sem : SemaphoreState) → P Nests → P Takes → P (NotObtained Unsatisfied) → P (NotObtained IncorrectState) → ((ticks : ℕ) → wish ≡ Limit ticks → P (Enters ticks)) → P (obtaining t wish closes sem)
-by_obtaining P t wish closes sem nests takes unsatisfied incorrect enters = owning (owns t sem) where
+by_obtaining : (P : Obtaining → Type 0) (by : Caller) (wish : Wish) (closes : Bool) (sem : SemaphoreState) → P Nests → P Takes → ((status : Status) → IsRefusal status → P (NotObtained status)) → ((ticks : ℕ) → wish ≡ Limit ticks → P (Enters ticks)) → P (obtaining by wish closes sem)
+by_obtaining P by wish closes sem nests takes refused enters = elsewhere (is_elsewhere by.home sem) where
+  unsatisfied : P (NotObtained Unsatisfied)
+  unsatisfied = refused Unsatisfied (record { answers = refl; goes_on = λ e. (let no : ⊥ = cc in no) })
+
   later : (w : Wish) → wish ≡ w → P (obtaining_later w closes sem)
   later NoWait e = unsatisfied
   later (Limit ticks) e = at (is_owned sem && closes) where
     at : (b : Bool) → P (cond b (NotObtained IncorrectState) (Enters ticks))
-    at true = incorrect
+    at true = refused IncorrectState (record { answers = refl; goes_on = λ q. (let no : ⊥ = cc in no) })
     at false = enters ticks e
 
   full : (b : Bool) → P (cond b (NotObtained Unsatisfied) Nests)
   full true = unsatisfied
   full false = nests
 
+  again : (b : Bool) → P (cond b (NotObtained Unsatisfied) (nesting_by sem))
+  again true = unsatisfied
+  again false = full (sem.nesting == 18446744073709551615)
+
   freely : (b : Bool) → P (cond b Takes (obtaining_later wish closes sem))
   freely true = takes
   freely false = later wish refl
 
-  owning : (b : Bool) → P (cond b (nesting_by sem) (cond (is_free sem) Takes (obtaining_later wish closes sem)))
-  owning true = full (sem.nesting == 18446744073709551615)
-  owning false = freely (is_free sem)
+  above : (b : Bool) → P (cond b (NotObtained InvalidPriority) (cond (is_free sem) Takes (obtaining_later wish closes sem)))
+  above true = refused InvalidPriority (record { answers = refl; goes_on = λ e. (let no : ⊥ = cc in no) })
+  above false = freely (is_free sem)
+
+  owning : (b : Bool) → P (cond b (obtaining_again sem) (cond (is_less by.prio (ceiling_in by.home sem)) (NotObtained InvalidPriority) (cond (is_free sem) Takes (obtaining_later wish closes sem))))
+  owning true = again (is_mrsp sem.protocol)
+  owning false = above (is_less by.prio (ceiling_in by.home sem))
+
+  elsewhere : (b : Bool) → P (cond b (NotObtained NotDefined) (cond (owns by.thread sem) (obtaining_again sem) (cond (is_less by.prio (ceiling_in by.home sem)) (NotObtained InvalidPriority) (cond (is_free sem) Takes (obtaining_later wish closes sem)))))
+  elsewhere true = refused NotDefined (record { answers = refl; goes_on = λ e. (let no : ⊥ = cc in no) })
+  elsewhere false = owning (owns by.thread sem)
 
 -- a semaphore that is put as it is changes nothing
-put_still : (k : Plain) (i : ℕ) → put_semaphore k i (semaphore_at k i) ≡ k
+pub put_still : (k : Plain) (i : ℕ) → put_semaphore k i (semaphore_at k i) ≡ k
 put_still k i = ap (λ (xs : List SemaphoreState). record k { semaphores = xs }) (with_nth-still no_semaphore k.semaphores i)
 
 -- what the caller obtains at once, or is refused
@@ -124,12 +139,11 @@ refused_now s old new groups groups' t i status reply is puts comes held = recor
   held = held;
 }
 
-obtains_now : (s : Scenario) (old new : List ClusterPart) (groups groups' : List GroupPart) (t i : ℕ) (by : Caller) (wish : Wish) (closes : Bool) (reply : Reply) → by.thread ≡ t → Comes s (λ k. k) old new → KeepsHeld old groups new groups' → ObtainsNow s old new groups groups' t i by reply (obtaining by.thread wish closes (semaphore_lent groups i))
-obtains_now s old new groups groups' t i by wish closes reply same comes held = by_obtaining (ObtainsNow s old new groups groups' t i by reply) by.thread wish closes (semaphore_lent groups i)
+obtains_now : (s : Scenario) (old new : List ClusterPart) (groups groups' : List GroupPart) (t i : ℕ) (by : Caller) (wish : Wish) (closes : Bool) (reply : Reply) → by.thread ≡ t → Comes s (λ k. k) old new → KeepsHeld old groups new groups' → ObtainsNow s old new groups groups' t i by reply (obtaining by wish closes (semaphore_lent groups i))
+obtains_now s old new groups groups' t i by wish closes reply same comes held = by_obtaining (ObtainsNow s old new groups groups' t i by reply) by wish closes (semaphore_lent groups i)
     (λ is other puts. obtained_now s old new groups groups' t i (nested (semaphore_lent groups i)) Nests reply is puts (λ k. refl) (λ k at. ap (λ x. put_semaphore k i (nested x)) at) comes held)
     (λ is other puts. obtained_now s old new groups groups' t i (taken t (semaphore_lent groups i)) Takes reply is (subst (λ n. PutsSemaphore groups i (taken n (semaphore_lent groups i)) groups') same puts) (λ k. refl) (λ k at. ap (λ x. put_semaphore k i (taken t x)) at) comes held)
-    (λ is other puts. refused_now s old new groups groups' t i Unsatisfied reply (ap answered is) puts comes held)
-    (λ is other puts. refused_now s old new groups groups' t i IncorrectState reply (ap answered is) puts comes held)
+    (λ status refused is other puts. refused_now s old new groups groups' t i status reply (ap answered is ∙ refused.answers) puts comes held)
     (λ ticks e is other puts. absurd (other (ap (λ (r : Reply). r.status) is)))
 
 -- a row that comes to the same in each state that the parts stand for
@@ -163,57 +177,55 @@ enters s old new groups groups' t i spins by ticks is puts becomes = record {
   held = still_held old new groups groups' becomes.held (put_owners groups groups' i (with_waiter by (semaphore_lent groups i)) puts refl);
 }
 
-obtains_later : (s : Scenario) (old new : List ClusterPart) (groups groups' : List GroupPart) (t i : ℕ) (spins : Bool) (by : Caller) (wish : Wish) (closes : Bool) (ticks : ℕ) (reply : Reply) → spins ≡ is_mrsp (semaphore_lent groups i).protocol → ticks ≡ ticks_of wish → by.thread ≡ t → by.home ≡ (thread_lent old t).home → by.prio ≡ home_prio (lent old) t → ObtainsLater s old new groups groups' t i spins by ticks reply (obtaining by.thread wish closes (semaphore_lent groups i))
-obtains_later s old new groups groups' t i spins by wish closes ticks reply spun limit thread home urgency = by_obtaining (ObtainsLater s old new groups groups' t i spins by ticks reply) by.thread wish closes (semaphore_lent groups i)
+obtains_later : (s : Scenario) (old new : List ClusterPart) (groups groups' : List GroupPart) (t i : ℕ) (spins : Bool) (by : Caller) (wish : Wish) (closes : Bool) (ticks : ℕ) (reply : Reply) → spins ≡ is_mrsp (semaphore_lent groups i).protocol → ticks ≡ ticks_of wish → by.thread ≡ t → by.home ≡ (thread_lent old t).home → by.prio ≡ home_prio (lent_both old groups) t → ObtainsLater s old new groups groups' t i spins by ticks reply (obtaining by wish closes (semaphore_lent groups i))
+obtains_later s old new groups groups' t i spins by wish closes ticks reply spun limit thread home urgency = by_obtaining (ObtainsLater s old new groups groups' t i spins by ticks reply) by wish closes (semaphore_lent groups i)
     (λ is waits puts becomes. absurd (never Successful reply is (λ e. let no : ⊥ = cc in no) waits))
     (λ is waits puts becomes. absurd (never Successful reply is (λ e. let no : ⊥ = cc in no) waits))
-    (λ is waits puts becomes. absurd (never Unsatisfied reply is (λ e. let no : ⊥ = cc in no) waits))
-    (λ is waits puts becomes. absurd (never IncorrectState reply is (λ e. let no : ⊥ = cc in no) waits))
+    (λ status refused is waits puts becomes. absurd (never status reply is refused.goes_on waits))
     (λ most e is waits puts becomes. subst (λ n. DoesBoth s (λ k. Waiting (begin_limited k t (ForSemaphore i (is_mrsp (semaphore_at k i).protocol)) n)) told.Waiting old groups new groups') (limit ∙ ap ticks_of e)
     (same_row s (λ k. Waiting (begin_limited k t (ForSemaphore i spins) ticks)) (λ k. Waiting (begin_limited k t (ForSemaphore i (is_mrsp (semaphore_at k i).protocol)) ticks)) told.Waiting old new groups groups'
     (λ table. ap (λ b. Waiting (begin_limited (joined s table old groups) t (ForSemaphore i b) ticks)) (sym spun))
     (enters s old new groups groups' t i spins by ticks (λ table. caller_is s table old groups t by thread home urgency) puts becomes)))
 
 -- the rule, where the semaphore was found
-abbrev obtain_row : ℕ → ℕ → Wish → Plain → Outcome
-obtain_row t i wish k = obtained_at k t i (obtaining t wish (reaches_from k (semaphore_at k i).owner t) (semaphore_at k i))
+abbrev pub obtain_row : ℕ → ℕ → Wish → Plain → Outcome
+obtain_row t i wish k = obtained_at k t i (obtaining (caller_at k t) wish (reaches_from k (semaphore_at k i).owner t) (semaphore_at k i))
 
 -- what an obtain comes to, as the code has it: whether it closes a cycle decides nothing for one that doesn't wish to wait
-comes_to : (old : List ClusterPart) (groups : List GroupPart) (t i : ℕ) (by : Caller) (wish : Wish) (owner : Option ℕ) (closes : Bool) → by.thread ≡ t → owner ≡ (semaphore_lent groups i).owner → ((ticks : ℕ) → wish ≡ Limit ticks → closes ≡ reaches_from (lent_both old groups) owner t) → obtaining t wish (reaches_from (lent_both old groups) (semaphore_lent groups i).owner t) (semaphore_lent groups i) ≡ obtaining by.thread wish closes (semaphore_lent groups i)
-comes_to old groups t i by wish owner closes thread owned reached = wishing wish refl where
-  wishing : (w : Wish) → wish ≡ w → obtaining t w (reaches_from (lent_both old groups) (semaphore_lent groups i).owner t) (semaphore_lent groups i) ≡ obtaining by.thread w closes (semaphore_lent groups i)
-  wishing NoWait e = ap (λ n. obtaining n NoWait closes (semaphore_lent groups i)) (sym thread)
-  wishing (Limit ticks) e =
-      ap (λ o. obtaining t (Limit ticks) (reaches_from (lent_both old groups) o t) (semaphore_lent groups i)) (sym owned)
-      ∙ ap (λ b. obtaining t (Limit ticks) b (semaphore_lent groups i)) (sym (reached ticks e))
-      ∙ ap (λ n. obtaining n (Limit ticks) closes (semaphore_lent groups i)) (sym thread)
+comes_to : (k : Plain) (t i : ℕ) (by : Caller) (wish : Wish) (owner : Option ℕ) (closes : Bool) → by ≡ caller_at k t → owner ≡ (semaphore_at k i).owner → ((ticks : ℕ) → wish ≡ Limit ticks → closes ≡ reaches_from k owner t) → obtaining (caller_at k t) wish (reaches_from k (semaphore_at k i).owner t) (semaphore_at k i) ≡ obtaining by wish closes (semaphore_at k i)
+comes_to k t i by wish owner closes is owned reached = ap (λ c. obtaining c wish (reaches_from k (semaphore_at k i).owner t) (semaphore_at k i)) (sym is) ∙ wishing wish refl where
+  wishing : (w : Wish) → wish ≡ w → obtaining by w (reaches_from k (semaphore_at k i).owner t) (semaphore_at k i) ≡ obtaining by w closes (semaphore_at k i)
+  wishing NoWait e = refl
+  wishing (Limit ticks) e = ap (λ b. obtaining by (Limit ticks) b (semaphore_at k i)) (ap (λ o. reaches_from k o t) (sym owned) ∙ sym (reached ticks e))
 
 -- The row of an obtain that doesn't wait,
-pub obtains_at_once : (s : Scenario) (old new : List ClusterPart) (groups groups' : List GroupPart) (t i : ℕ) (by : Caller) (wish : Wish) (owner : Option ℕ) (closes : Bool) (reply : Reply) → by.thread ≡ t → owner ≡ (semaphore_lent groups i).owner → ((ticks : ℕ) → wish ≡ Limit ticks → closes ≡ reaches_from (lent_both old groups) owner t) → reply ≡ reply_to_obtain by wish closes (semaphore_lent groups i) → (reply.status ≡ Waits → ⊥) → PutsSemaphore groups i (obtained by wish closes (semaphore_lent groups i)) groups' → Comes s (λ k. k) old new → KeepsHeld old groups new groups' → DoesBoth s (λ k. obtained_at k t i (obtaining t wish (reaches_from k (semaphore_at k i).owner t) (semaphore_at k i))) (answered reply) old groups new groups'
-obtains_at_once s old new groups groups' t i by wish owner closes reply thread owned reached is other puts comes held =
-    let o = obtaining by.thread wish closes (semaphore_lent groups i) in
-    same_row s (λ k. obtained_at k t i o) (obtain_row t i wish) (answered reply) old new groups groups' (λ table. ap (obtained_at (joined s table old groups) t i) (comes_to old groups t i by wish owner closes thread owned reached))
+pub obtains_at_once : (s : Scenario) (old new : List ClusterPart) (groups groups' : List GroupPart) (t i : ℕ) (by : Caller) (wish : Wish) (owner : Option ℕ) (closes : Bool) (reply : Reply) → by.thread ≡ t → by.home ≡ (thread_lent old t).home → by.prio ≡ home_prio (lent_both old groups) t → owner ≡ (semaphore_lent groups i).owner → ((ticks : ℕ) → wish ≡ Limit ticks → closes ≡ reaches_from (lent_both old groups) owner t) → reply ≡ reply_to_obtain by wish closes (semaphore_lent groups i) → (reply.status ≡ Waits → ⊥) → PutsSemaphore groups i (obtained by wish closes (semaphore_lent groups i)) groups' → Comes s (λ k. k) old new → KeepsHeld old groups new groups' → DoesBoth s (obtain_row t i wish) (answered reply) old groups new groups'
+obtains_at_once s old new groups groups' t i by wish owner closes reply thread home urgency owned reached is other puts comes held =
+    let o = obtaining by wish closes (semaphore_lent groups i) in
+    same_row s (λ k. obtained_at k t i o) (obtain_row t i wish) (answered reply) old new groups groups' (λ table. ap (obtained_at (joined s table old groups) t i) (comes_to (joined s table old groups) t i by wish owner closes (caller_is s table old groups t by thread home urgency) owned reached))
     (obtains_now s old new groups groups' t i by wish closes reply thread comes held is other puts)
 
 -- and of one that waits.
-pub obtains_by_waiting : (s : Scenario) (old new : List ClusterPart) (groups groups' : List GroupPart) (t i : ℕ) (spins : Bool) (by : Caller) (wish : Wish) (owner : Option ℕ) (closes : Bool) (ticks : ℕ) (reply : Reply) → spins ≡ is_mrsp (semaphore_lent groups i).protocol → by.thread ≡ t → by.home ≡ (thread_lent old t).home → by.prio ≡ home_prio (lent old) t → owner ≡ (semaphore_lent groups i).owner → ((ticks : ℕ) → wish ≡ Limit ticks → closes ≡ reaches_from (lent_both old groups) owner t) → ticks ≡ ticks_of wish → reply ≡ reply_to_obtain by wish closes (semaphore_lent groups i) → reply.status ≡ Waits → PutsSemaphore groups i (obtained by wish closes (semaphore_lent groups i)) groups' → Becomes s (λ k. start_limited k t (ForSemaphore i spins) ticks) old new → DoesBoth s (λ k. obtained_at k t i (obtaining t wish (reaches_from k (semaphore_at k i).owner t) (semaphore_at k i))) told.Waiting old groups new groups'
+pub obtains_by_waiting : (s : Scenario) (old new : List ClusterPart) (groups groups' : List GroupPart) (t i : ℕ) (spins : Bool) (by : Caller) (wish : Wish) (owner : Option ℕ) (closes : Bool) (ticks : ℕ) (reply : Reply) → spins ≡ is_mrsp (semaphore_lent groups i).protocol → by.thread ≡ t → by.home ≡ (thread_lent old t).home → by.prio ≡ home_prio (lent_both old groups) t → owner ≡ (semaphore_lent groups i).owner → ((ticks : ℕ) → wish ≡ Limit ticks → closes ≡ reaches_from (lent_both old groups) owner t) → ticks ≡ ticks_of wish → reply ≡ reply_to_obtain by wish closes (semaphore_lent groups i) → reply.status ≡ Waits → PutsSemaphore groups i (obtained by wish closes (semaphore_lent groups i)) groups' → Becomes s (λ k. start_limited k t (ForSemaphore i spins) ticks) old new → DoesBoth s (obtain_row t i wish) told.Waiting old groups new groups'
 obtains_by_waiting s old new groups groups' t i spins by wish owner closes ticks reply spun thread home urgency owned reached limit is waits puts becomes =
-    let o = obtaining by.thread wish closes (semaphore_lent groups i) in
-    same_row s (λ k. obtained_at k t i o) (obtain_row t i wish) told.Waiting old new groups groups' (λ table. ap (obtained_at (joined s table old groups) t i) (comes_to old groups t i by wish owner closes thread owned reached))
+    let o = obtaining by wish closes (semaphore_lent groups i) in
+    same_row s (λ k. obtained_at k t i o) (obtain_row t i wish) told.Waiting old new groups groups' (λ table. ap (obtained_at (joined s table old groups) t i) (comes_to (joined s table old groups) t i by wish owner closes (caller_is s table old groups t by thread home urgency) owned reached))
     (obtains_later s old new groups groups' t i spins by wish closes ticks reply spun limit thread home urgency is waits puts becomes)
 
--- the owner after an obtain, where it is another, is the caller
-pub obtained_owner : (by : Caller) (wish : Wish) (closes : Bool) (sem : SemaphoreState) (t : ℕ) → (obtained by wish closes sem).owner ≡ Some t → (sem.owner ≡ Some t → ⊥) → by.thread ≡ t
-obtained_owner by wish closes sem t = by_obtaining (λ o. (after_obtaining o by sem).owner ≡ Some t → (sem.owner ≡ Some t → ⊥) → by.thread ≡ t) by.thread wish closes sem
-    (λ is other. absurd (other is))
+-- the owner after an obtain, where the semaphore is held otherwise, is the caller
+pub obtained_owner : (by : Caller) (wish : Wish) (closes : Bool) (sem : SemaphoreState) (t : ℕ) → (obtained by wish closes sem).owner ≡ Some t → holding_of (obtained by wish closes sem) ≢ holding_of sem → by.thread ≡ t
+obtained_owner by wish closes sem t = by_obtaining (λ o. (after_obtaining o by sem).owner ≡ Some t → holding_of (after_obtaining o by sem) ≢ holding_of sem → by.thread ≡ t) by wish closes sem
+    (λ is other. absurd (other refl))
     (λ is other. taking (is_binary sem.kind) is other)
-    (λ is other. absurd (other is))
-    (λ is other. absurd (other is))
-    (λ ticks e is other. absurd (other is))
+    (λ status refused is other. absurd (other refl))
+    (λ ticks e is other. absurd (other refl))
   where
-    taking : (b : Bool) → (let x : SemaphoreState = cond b (owned_by by.thread sem) (record sem { count = sem.count - 1 }) in x).owner ≡ Some t → (sem.owner ≡ Some t → ⊥) → by.thread ≡ t
+    taken_if : Bool → SemaphoreState
+    taken_if b = cond b (owned_by by.thread sem) (record sem { count = sem.count - 1 })
+
+    taking : (b : Bool) → (taken_if b).owner ≡ Some t → holding_of (taken_if b) ≢ holding_of sem → by.thread ≡ t
     taking true is other = cc
-    taking false is other = absurd (other is)
+    taking false is other = absurd (other refl)
 
 -- ---- release
 
@@ -249,9 +261,9 @@ ReleasesStill s old new groups groups' i wakes reply r = is_serving r ≡ false 
 none_woken : (s : Scenario) (old new : List ClusterPart) (wakes : List Wake) → wakes ≡ [] → Comes s (λ k. woken k wakes) old new → Comes s (λ k. k) old new
 none_woken s old new wakes none comes = subst (λ ws. Comes s (λ k. woken k ws) old new) none comes
 
-still_put : (s : Scenario) (old new : List ClusterPart) (groups groups' : List GroupPart) (i : ℕ) (x : SemaphoreState) (o : Plain → Outcome) (answer : Answer) → PutsSemaphore groups i x groups' → Comes s (λ k. k) old new → KeepsHeld old groups new groups' → ((k : Plain) → answer ≡ answer_of (o k)) → ((table : Table) → changed (joined s table old groups) (o (joined s table old groups)) ≡ put_semaphore (joined s table old groups) i x) → DoesBoth s o answer old groups new groups'
+pub still_put : (s : Scenario) (old new : List ClusterPart) (groups groups' : List GroupPart) (i : ℕ) (x : SemaphoreState) (o : Plain → Outcome) (answer : Answer) → PutsSemaphore groups i x groups' → Comes s (λ k. k) old new → KeepsHeld old groups new groups' → ((table : Table) → answer ≡ answer_of (o (joined s table old groups))) → ((table : Table) → changed (joined s table old groups) (o (joined s table old groups)) ≡ put_semaphore (joined s table old groups) i x) → DoesBoth s o answer old groups new groups'
 still_put s old new groups groups' i x o answer puts becomes held told state = record {
-  told = λ table. told (joined s table old groups);
+  told = told;
   state = λ table laid. becomes.state table groups' laid ∙ semaphore_joined s table old groups groups' i x puts ∙ sym (state table);
   kept = becomes.kept;
   framed = puts.kept;
@@ -349,17 +361,17 @@ still_serves k t sem queue serving = first (is_binary sem.kind && not (owns t se
 
 -- a release of a semaphore whose queue is up to date, which serves a waiter
 abbrev ReleasesNow : Scenario → List ClusterPart → List ClusterPart → List GroupPart → List GroupPart → ℕ → List Wake → Reply → Releasing → Type 0
-ReleasesNow s old new groups groups' i wakes reply r = is_serving r ≡ true → Releases s old new groups groups' i wakes reply (up_to_date (lent old) (semaphore_lent groups i)) r
+ReleasesNow s old new groups groups' i wakes reply r = is_serving r ≡ true → Releases s old new groups groups' i wakes reply (up_to_date (lent_both old groups) (semaphore_lent groups i)) r
 
-releases_now : (s : Scenario) (old new : List ClusterPart) (groups groups' : List GroupPart) (t i : ℕ) (wakes : List Wake) (reply : Reply) → ReleasesNow s old new groups groups' i wakes reply (releasing t (up_to_date (lent old) (semaphore_lent groups i)))
-releases_now s old new groups groups' t i wakes reply = by_releasing (ReleasesNow s old new groups groups' i wakes reply) t (up_to_date (lent old) (semaphore_lent groups i))
+releases_now : (s : Scenario) (old new : List ClusterPart) (groups groups' : List GroupPart) (t i : ℕ) (wakes : List Wake) (reply : Reply) → ReleasesNow s old new groups groups' i wakes reply (releasing t (up_to_date (lent_both old groups) (semaphore_lent groups i)))
+releases_now s old new groups groups' t i wakes reply = by_releasing (ReleasesNow s old new groups groups' i wakes reply) t (up_to_date (lent_both old groups) (semaphore_lent groups i))
     (λ serving is puts woke becomes held. absurd (false≢true serving))
     (λ serving is puts woke becomes held. absurd (false≢true serving))
     (λ u serving is puts woke becomes held. record {
       told = λ table. ap answered is;
       state = λ table laid. (
           let k = joined s table old groups in
-          let sem = up_to_date (lent old) (semaphore_lent groups i) in
+          let sem = up_to_date (lent_both old groups) (semaphore_lent groups i) in
           becomes.state table groups' laid
           ∙ ap (λ (n : Plain). woken n wakes) (semaphore_joined s table old groups groups' i (handed_to u sem) puts)
           ∙ ap (woken (put_semaphore k i (handed_to u sem))) woke
@@ -408,7 +420,7 @@ releases_none s old new groups groups' t i wakes reply queue still is puts woke 
     }
 
 -- a semaphore that was put twice is as it was put last
-put_twice : (old mid new : List GroupPart) (i : ℕ) (x y : SemaphoreState) → PutsSemaphore old i x mid → PutsSemaphore mid i y new → PutsSemaphore old i y new
+pub put_twice : (old mid new : List GroupPart) (i : ℕ) (x y : SemaphoreState) → PutsSemaphore old i x mid → PutsSemaphore mid i y new → PutsSemaphore old i y new
 put_twice old mid new i x y first second = record {
   semaphores = second.semaphores ∙ ap (λ xs. with_nth xs i y) first.semaphores ∙ with_nth-twice x y (semaphores_of old) i;
   barriers = second.barriers ∙ first.barriers;
@@ -427,12 +439,12 @@ put_there old mid i x low high puts =
     nth_of xs = nth no_semaphore xs i
 
 -- The row of a release, where the semaphore serves a waiter, before which its queue was brought up to date.
-releases_served : (s : Scenario) (old new : List ClusterPart) (groups mid groups' : List GroupPart) (t i : ℕ) (wakes : List Wake) (reply : Reply) → 1 ≤ i → i ≤ 64 → IsQueue (semaphore_lent groups i).queue.arrivals (semaphore_lent groups i).queue.turns → serves t (semaphore_lent groups i) ≡ true → PutsSemaphore groups i (up_to_date (lent old) (semaphore_lent groups i)) mid → reply ≡ reply_to_release t (semaphore_lent mid i) → PutsSemaphore mid i (released t (semaphore_lent mid i)) groups' → wakes ≡ woken_by_release t (semaphore_lent mid i) → Comes s (λ k. woken k wakes) old new → KeepsHeld old groups new groups' → DoesBoth s (λ k. released_at k i (releasing t (up_to_date k (semaphore_at k i)))) (answered reply) old groups new groups'
+releases_served : (s : Scenario) (old new : List ClusterPart) (groups mid groups' : List GroupPart) (t i : ℕ) (wakes : List Wake) (reply : Reply) → 1 ≤ i → i ≤ 64 → IsQueue (semaphore_lent groups i).queue.arrivals (semaphore_lent groups i).queue.turns → serves t (semaphore_lent groups i) ≡ true → PutsSemaphore groups i (up_to_date (lent_both old groups) (semaphore_lent groups i)) mid → reply ≡ reply_to_release t (semaphore_lent mid i) → PutsSemaphore mid i (released t (semaphore_lent mid i)) groups' → wakes ≡ woken_by_release t (semaphore_lent mid i) → Comes s (λ k. woken k wakes) old new → KeepsHeld old groups new groups' → DoesBoth s (λ k. released_at k i (releasing t (up_to_date k (semaphore_at k i)))) (answered reply) old groups new groups'
 releases_served s old new groups mid groups' t i wakes reply low high queue serving dated is puts woke becomes held =
-    let sem = up_to_date (lent old) (semaphore_lent groups i) in
+    let sem = up_to_date (lent_both old groups) (semaphore_lent groups i) in
     let there = put_there groups mid i sem low high dated in
     let done_there : PutsSemaphore groups i (released t sem) groups' = put_twice groups mid groups' i sem (released t sem) dated (subst (λ x. PutsSemaphore mid i (released t x) groups') there puts) in
-    let does = releases_now s old new groups groups' t i wakes reply (still_serves (lent old) t (semaphore_lent groups i) queue serving) (is ∙ ap (reply_to_release t) there) done_there (woke ∙ ap (woken_by_release t) there) becomes held in
+    let does = releases_now s old new groups groups' t i wakes reply (still_serves (lent_both old groups) t (semaphore_lent groups i) queue serving) (is ∙ ap (reply_to_release t) there) done_there (woke ∙ ap (woken_by_release t) there) becomes held in
     record {
       told = λ table. (let k = joined s table old groups in does.told table ∙ ap (λ x. answer_of (released_at k i (releasing t x))) (up_to_date_lent s table old groups (semaphore_lent groups i)));
       state = λ table laid. (let k = joined s table old groups in does.state table laid ∙ ap (λ x. changed k (released_at k i (releasing t x))) (up_to_date_lent s table old groups (semaphore_lent groups i)));
@@ -443,13 +455,13 @@ releases_served s old new groups mid groups' t i wakes reply low high queue serv
 
 -- Before a release the queue was brought up to date where it serves a waiter, and else nothing changed.
 abbrev pub IsPrepared : List ClusterPart → List GroupPart → ℕ → ℕ → List GroupPart → Type 0
-IsPrepared old groups t i mid = ((serves t (semaphore_lent groups i) ≡ true) × PutsSemaphore groups i (up_to_date (lent old) (semaphore_lent groups i)) mid) ⊎ ((serves t (semaphore_lent groups i) ≡ false) × (mid ≡ groups))
+IsPrepared old groups t i mid = ((serves t (semaphore_lent groups i) ≡ true) × PutsSemaphore groups i (up_to_date (lent_both old groups) (semaphore_lent groups i)) mid) ⊎ ((serves t (semaphore_lent groups i) ≡ false) × (mid ≡ groups))
 
 -- who is served then lives,
 pub prepared_live : (parts : List ClusterPart) (groups mid : List GroupPart) (t i : ℕ) → 1 ≤ i → i ≤ 64 → IsQueueOf parts groups (OfSemaphore i) → IsPrepared parts groups t i mid → AllLive parts (woken_by_release t (semaphore_lent mid i))
 prepared_live parts groups mid t i low high queue (inl dated) =
-    let sem = up_to_date (lent parts) (semaphore_lent groups i) in
-    subst (λ (x : SemaphoreState). AllLive parts (woken_by_release t x)) (sym (put_there groups mid i sem low high dated.1)) (released_live parts groups t i sem queue (dated_threads (lent parts) (semaphore_lent groups i)))
+    let sem = up_to_date (lent_both parts groups) (semaphore_lent groups i) in
+    subst (λ (x : SemaphoreState). AllLive parts (woken_by_release t x)) (sym (put_there groups mid i sem low high dated.1)) (released_live parts groups t i sem queue (dated_threads (lent_both parts groups) (semaphore_lent groups i)))
 prepared_live parts groups mid t i low high queue (inr same) =
     subst (λ gs. AllLive parts (woken_by_release t (semaphore_lent gs i))) (sym same.1) (released_live parts groups t i (semaphore_lent groups i) queue refl)
 
@@ -462,30 +474,33 @@ releases_prepared s old new groups mid groups' t i wakes reply answer low high q
     by (inl dated) = releases_served s old new groups mid groups' t i wakes reply low high queue dated.0 dated.1 is puts woke becomes held
     by (inr same) = releases_none s old new groups groups' t i wakes reply queue same.0 (is ∙ ap (λ gs. reply_to_release t (semaphore_lent gs i)) same.1) (subst (λ gs. PutsSemaphore gs i (released t (semaphore_lent gs i)) groups') same.1 puts) (woke ∙ ap (λ gs. woken_by_release t (semaphore_lent gs i)) same.1) becomes held
 
--- the owner after a release, where it is another, lives
-released_by : (parts : List ClusterPart) (sem : SemaphoreState) (u : ℕ) (r : Releasing) → AllLive parts (woken_by_releasing r) → (after_releasing r sem).owner ≡ Some u → (sem.owner ≡ Some u → ⊥) → has_begun (thread_lent parts u).life ≡ true
-released_by parts sem u (NotReleased status) live is other = absurd (other is)
-released_by parts sem u Unnests live is other = absurd (other is)
-released_by parts sem u Frees live is other = absurd (freeing sem.kind is) where
-  freeing : (kind : SemKind) → (freed_by kind sem).owner ≡ Some u → ⊥
-  freeing Counting e = other e
-  freeing Simple e = other e
-  freeing Binary e = cc
-released_by parts sem u (Serves v) live is other = giving (is_binary sem.kind) is where
+-- the owner after a release, where the semaphore is held otherwise, lives
+released_by : (parts : List ClusterPart) (sem : SemaphoreState) (u : ℕ) (r : Releasing) → AllLive parts (woken_by_releasing r) → (after_releasing r sem).owner ≡ Some u → holding_of (after_releasing r sem) ≢ holding_of sem → has_begun (thread_lent parts u).life ≡ true
+released_by parts sem u (NotReleased status) live is other = absurd (other refl)
+released_by parts sem u Unnests live is other = absurd (other refl)
+released_by parts sem u Frees live is other = absurd (freeing sem.kind is other) where
+  freeing : (kind : SemKind) → (freed_by kind sem).owner ≡ Some u → holding_of (freed_by kind sem) ≢ holding_of sem → ⊥
+  freeing Counting e differs = differs refl
+  freeing Simple e differs = differs refl
+  freeing Binary e differs = cc
+released_by parts sem u (Serves v) live is other = giving (is_binary sem.kind) is other where
   given : SemaphoreState
   given = record sem { queue = served_by v sem.queue }
 
-  giving : (b : Bool) → (let x : SemaphoreState = cond b (owned_by v given) given in x).owner ≡ Some u → has_begun (thread_lent parts u).life ≡ true
-  giving true e = let same : v ≡ u = cc in ap (λ n. has_begun (thread_lent parts n).life) (sym same) ∙ live.0
-  giving false e = absurd (other e)
+  given_if : Bool → SemaphoreState
+  given_if b = cond b (owned_by v given) given
 
-pub released_owner : (parts : List ClusterPart) (t u : ℕ) (sem : SemaphoreState) → AllLive parts (woken_by_release t sem) → (released t sem).owner ≡ Some u → (sem.owner ≡ Some u → ⊥) → has_begun (thread_lent parts u).life ≡ true
+  giving : (b : Bool) → (given_if b).owner ≡ Some u → holding_of (given_if b) ≢ holding_of sem → has_begun (thread_lent parts u).life ≡ true
+  giving true e differs = let same : v ≡ u = cc in ap (λ n. has_begun (thread_lent parts n).life) (sym same) ∙ live.0
+  giving false e differs = absurd (differs refl)
+
+pub released_owner : (parts : List ClusterPart) (t u : ℕ) (sem : SemaphoreState) → AllLive parts (woken_by_release t sem) → (released t sem).owner ≡ Some u → holding_of (released t sem) ≢ holding_of sem → has_begun (thread_lent parts u).life ≡ true
 released_owner parts t u sem live is other = released_by parts sem u (releasing t sem) live is other
 
 -- to bring a queue up to date changes no owner
 pub prepared_owners : (old : List ClusterPart) (groups mid : List GroupPart) (t i : ℕ) → IsPrepared old groups t i mid → KeepsOwners groups mid
-prepared_owners old groups mid t i (inl dated) = put_owners groups mid i (up_to_date (lent old) (semaphore_lent groups i)) dated.1 refl
-prepared_owners old groups mid t i (inr same) = λ j. ap (λ gs. (semaphore_lent gs j).owner) same.1
+prepared_owners old groups mid t i (inl dated) = put_owners groups mid i (up_to_date (lent_both old groups) (semaphore_lent groups i)) dated.1 refl
+prepared_owners old groups mid t i (inr same) = λ j. ap (λ gs. holding_of (semaphore_lent gs j)) same.1
 
 -- ---- flush and delete
 
@@ -542,43 +557,50 @@ removes s old new groups groups' table table' i wakes unowned puts woke becomes 
           ∙ ap (λ (n : Plain). without_object n Semaphore i) (emptied s table old new groups groups' i no_semaphore ObjectWasDeleted wakes gone (woke ∙ deleted_woken (semaphore_lent groups i) unowned));
       laid = λ laid. laid_kept s.clusters old new becomes.kept laid;
       kept = ap (λ (f : Frame). f.stored) becomes.kept;
+      accounts = ap (λ (f : Frame). f.accounts) becomes.kept;
       framed = puts.kept;
-      held = still_held old new groups groups' becomes.held (put_owners groups groups' i no_semaphore gone (sym unowned));
+      held = still_held old new groups groups' becomes.held (put_owners groups groups' i no_semaphore gone (sym (ap (held_by (semaphore_lent groups i)) unowned)));
     }
 
 -- ---- create
 
-pub creates : (s : Scenario) (parts new : List ClusterPart) (groups groups' : List GroupPart) (table table' : Table) (t name index : ℕ) (spec : SemSpec) (urgency by : ℕ) (refusal : Option Status) (answer : Answer) → by ≡ t → urgency ≡ home_prio (lent parts) t → refusal ≡ create_refusal spec urgency → ((k : Plain) → Creates (with_table k table) Semaphore name refusal (Ok index) (with_table k table')) → answer ≡ told.Done Successful (id_of Semaphore index) None → PutsSemaphore groups index (new_semaphore spec by) groups' → Comes s (λ k. k) parts new → KeepsHeld parts groups new groups' → DoesEvery s (λ k. semaphore_create k t name spec) answer parts groups table new groups' table'
-creates s parts new groups groups' table table' t name index spec urgency by refusal answer thread home refused made is puts comes held = record {
+pub creates : (s : Scenario) (parts new : List ClusterPart) (groups groups' : List GroupPart) (table table' : Table) (t name index : ℕ) (spec : SemSpec) (urgency : ℕ) (by : Caller) (refusal : Option Status) (answer : Answer) → by.thread ≡ t → by.home ≡ (thread_lent parts t).home → urgency ≡ home_prio (lent_both parts groups) t → refusal ≡ create_refusal spec urgency → ((k : Plain) → Creates (with_table k table) Semaphore name refusal (Ok index) (with_table k table')) → answer ≡ told.Done Successful (id_of Semaphore index) None → PutsSemaphore groups index (new_semaphore spec by) groups' → Comes s (λ k. k) parts new → KeepsHeld parts groups new groups' → DoesEvery s (λ k. semaphore_create k t name spec) answer parts groups table new groups' table'
+creates s parts new groups groups' table table' t name index spec urgency by refusal answer thread home prio refused made is puts comes held = record {
   told = is ∙ ap answer_of (sym row);
-  state = λ laid. comes.state table' groups' laid ∙ semaphore_joined s table' parts groups groups' index (new_semaphore spec t) (subst (λ u. PutsSemaphore groups index (new_semaphore spec u) groups') thread puts) ∙ ap (changed k) (sym row);
+  state = λ laid. comes.state table' groups' laid ∙ semaphore_joined s table' parts groups groups' index (new_semaphore spec (caller_at k t)) (subst (λ x. PutsSemaphore groups index x groups') new_is puts) ∙ ap (changed k) (sym row);
   laid = λ laid. laid_kept s.clusters parts new comes.kept laid;
   kept = ap (λ (f : Frame). f.stored) comes.kept;
+  accounts = ap (λ (f : Frame). f.accounts) comes.kept;
   framed = puts.kept;
   held = held;
 } where
   k : Plain
   k = joined s table parts groups
 
+  -- what is created depends on the creator's index and home alone
+  new_is : new_semaphore spec by ≡ new_semaphore spec (caller_at k t)
+  new_is = λ i. new_semaphore spec (record { thread = thread i; home = home i; prio = 0 })
+
   place : ℕ → Plain → Plain
-  place index next = put_semaphore next index (new_semaphore spec t)
+  place index next = put_semaphore next index (new_semaphore spec (caller_at k t))
 
   row : semaphore_create k t name spec ≡ done (id_of Semaphore index) (place index (with_table k table'))
-  row = ap (λ p. create k Semaphore name (create_refusal spec p) place) (sym (home ∙ home_prio_lent s table parts groups t)) ∙ ap (λ r. create k Semaphore name r place) (sym refused) ∙ made k place
+  row = ap (λ p. create k Semaphore name (create_refusal spec p) place) (sym (prio ∙ home_prio_lent s table parts groups t)) ∙ ap (λ r. create k Semaphore name r place) (sym refused) ∙ made k place
 
 -- the owner of one that was created, if it has one, is its creator
-pub created_owner : (spec : SemSpec) (t u : ℕ) → (new_semaphore spec t).owner ≡ Some u → t ≡ u
-created_owner spec t u is = by (is_binary spec.kind && (spec.count == 0)) is where
-  by : (b : Bool) → (let x : SemaphoreState = cond b (owned_by t (free_semaphore spec)) (free_semaphore spec) in x).owner ≡ Some u → t ≡ u
-  by true e = cc
-  by false e = let no : ⊥ = cc in absurd no
+pub created_owner : (spec : SemSpec) (by : Caller) (u : ℕ) → (new_semaphore spec by).owner ≡ Some u → by.thread ≡ u
+created_owner spec by u is = owning (is_binary spec.kind && (spec.count == 0)) is where
+  owning : (b : Bool) → (let x : SemaphoreState = cond b (owned_by by.thread (free_semaphore spec by.home)) (free_semaphore spec by.home) in x).owner ≡ Some u → by.thread ≡ u
+  owning true e = cc
+  owning false e = let no : ⊥ = cc in absurd no
 
-pub creates_none : (s : Scenario) (parts : List ClusterPart) (groups : List GroupPart) (table table' : Table) (t name : ℕ) (spec : SemSpec) (urgency : ℕ) (refusal : Option Status) (status : Status) → urgency ≡ home_prio (lent parts) t → refusal ≡ create_refusal spec urgency → ((k : Plain) → Creates (with_table k table) Semaphore name refusal (Err status) (with_table k table')) → DoesEvery s (λ k. semaphore_create k t name spec) (told.Refused status) parts groups table parts groups table'
-creates_none s parts groups table table' t name spec urgency refusal status home refused made = record {
+pub creates_none : (s : Scenario) (parts : List ClusterPart) (groups : List GroupPart) (table table' : Table) (t name : ℕ) (spec : SemSpec) (urgency : ℕ) (refusal : Option Status) (status : Status) → urgency ≡ home_prio (lent_both parts groups) t → refusal ≡ create_refusal spec urgency → ((k : Plain) → Creates (with_table k table) Semaphore name refusal (Err status) (with_table k table')) → DoesEvery s (λ k. semaphore_create k t name spec) (told.Refused status) parts groups table parts groups table'
+creates_none s parts groups table table' t name spec urgency refusal status prio refused made = record {
   told = ap answer_of (sym row);
   state = λ laid. (made k).1 ∙ ap (changed k) (sym row);
   laid = λ laid. laid;
   kept = refl;
+  accounts = refl;
   framed = refl;
   held = λ h. h;
 } where
@@ -586,150 +608,52 @@ creates_none s parts groups table table' t name spec urgency refusal status home
   k = joined s table parts groups
 
   place : ℕ → Plain → Plain
-  place index next = put_semaphore next index (new_semaphore spec t)
+  place index next = put_semaphore next index (new_semaphore spec (caller_at k t))
 
   row : semaphore_create k t name spec ≡ Refused status
-  row = ap (λ p. create k Semaphore name (create_refusal spec p) place) (sym (home ∙ home_prio_lent s table parts groups t)) ∙ ap (λ r. create k Semaphore name r place) (sym refused) ∙ (made k).0 place
-
--- ---- a queue that is brought up to date, waiter by waiter
-
--- a waiter that may have got the present priority of a thread
-abbrev with_prio_if : Plain → ℕ → Bool → Waiter → Waiter
-with_prio_if k t b waiter = cond b (let w : Waiter = record waiter { prio = home_prio k t } in w) waiter
-
--- a waiter has the priority that its thread has in its home, whichever it had before
-present_again : (k : Plain) (t : ℕ) (b : Bool) (waiter : Waiter) → with_present_prio k (with_prio_if k t b waiter) ≡ with_present_prio k waiter
-present_again k t true waiter = refl
-present_again k t false waiter = refl
-
-prio_again : (k : Plain) (t : ℕ) (waiters : List Waiter) → map (with_present_prio k) (with_prio t (home_prio k t) waiters) ≡ map (with_present_prio k) waiters
-prio_again k t [] = refl
-prio_again k t (waiter ∷ waiters) =
-    ap (λ w. w ∷ map (with_present_prio k) (with_prio t (home_prio k t) waiters)) (present_again k t (waiter.thread == t) waiter)
-    ∙ ap (λ ws. with_present_prio k waiter ∷ ws) (prio_again k t waiters)
-
--- the first of these waiters are up to date
-abbrev pub AreDated : Plain → ℕ → List Waiter → Type 0
-AreDated k n waiters = take n waiters ≡ take n (map (with_present_prio k) waiters)
-
-head_of : (x y : Waiter) (xs ys : List Waiter) → x ∷ xs ≡ y ∷ ys → x ≡ y
-head_of x y xs ys e = cc
-
-tail_of : (x y : Waiter) (xs ys : List Waiter) → x ∷ xs ≡ y ∷ ys → xs ≡ ys
-tail_of x y xs ys e = cc
-
--- one that has got the present priority of its thread is up to date, and so is one that was
-gets_dated : (k : Plain) (t : ℕ) (b : Bool) (waiter : Waiter) → (waiter.thread == t) ≡ b → (b ≡ true) ⊎ (waiter ≡ with_present_prio k waiter) → with_prio_if k t b waiter ≡ with_present_prio k waiter
-gets_dated k t true waiter e was = ap (λ m. (let w : Waiter = record waiter { prio = home_prio k m } in w)) (sym (same_number waiter.thread t e))
-gets_dated k t false waiter e (inl differs) = absurd (false≢true differs)
-gets_dated k t false waiter e (inr was) = was
-
-both_dated : (k : Plain) (n t : ℕ) (waiter : Waiter) (waiters : List Waiter) → with_prio_if k t (waiter.thread == t) waiter ≡ with_present_prio k waiter → take n (with_prio t (home_prio k t) waiters) ≡ take n (map (with_present_prio k) (with_prio t (home_prio k t) waiters)) → AreDated k (suc n) (with_prio t (home_prio k t) (waiter ∷ waiters))
-both_dated k n t waiter waiters one rest =
-    ap (λ w. w ∷ take n (with_prio t (home_prio k t) waiters)) one
-    ∙ ap (λ ws. with_present_prio k waiter ∷ ws) rest
-    ∙ ap (λ w. w ∷ take n (map (with_present_prio k) (with_prio t (home_prio k t) waiters))) (sym (present_again k t (waiter.thread == t) waiter))
-
--- so is one more, where the next has got its present priority,
-one_dated : (k : Plain) (n t : ℕ) (waiters : List Waiter) → AreDated k n waiters → slice_get (threads waiters) n ≡ Some t → AreDated k (suc n) (with_prio t (home_prio k t) waiters)
-one_dated k n t [] dated there = refl
-one_dated k zero t (waiter ∷ waiters) dated there =
-    let same : waiter.thread ≡ t = cc in
-    both_dated k zero t waiter waiters (gets_dated k t (waiter.thread == t) waiter refl (inl (equal_test waiter.thread t same))) refl
-one_dated k (suc n) t (waiter ∷ waiters) dated there =
-    let was = head_of waiter (with_present_prio k waiter) (take n waiters) (take n (map (with_present_prio k) waiters)) dated in
-    let rest = tail_of waiter (with_present_prio k waiter) (take n waiters) (take n (map (with_present_prio k) waiters)) dated in
-    both_dated k (suc n) t waiter waiters (gets_dated k t (waiter.thread == t) waiter refl (inr was)) (one_dated k n t waiters rest there)
-
-next_of : (n : ℕ) → suc n ≡ n + 1
-next_of n = omega arith
-
--- A semaphore of which the first waiters are up to date, and which is otherwise as it was.
-pub record IsDating (k : Plain) (n : ℕ) (before now : SemaphoreState) : Type 0 where
-  pub same : now ≡ record before { queue = record before.queue { arrivals = now.queue.arrivals } }
-  pub all : map (with_present_prio k) now.queue.arrivals ≡ map (with_present_prio k) before.queue.arrivals
-  pub first : AreDated k n now.queue.arrivals
-
-pub dating_starts : (k : Plain) (sem : SemaphoreState) → IsDating k 0 sem sem
-dating_starts k sem = record { same = refl; all = refl; first = refl }
-
--- the next waiter gets its present priority
-pub dating_next : (k : Plain) (n t prio : ℕ) (before now : SemaphoreState) → IsDating k n before now → slice_get (threads now.queue.arrivals) n ≡ Some t → prio ≡ home_prio k t → IsDating k (n + 1) before (with_prio_of t prio now)
-dating_next k n t prio before now dating there is = record {
-  same = ap (with_prio_of t prio) dating.same;
-  all = ap (λ p. map (with_present_prio k) (with_prio t p now.queue.arrivals)) is ∙ prio_again k t now.queue.arrivals ∙ dating.all;
-  first = subst (λ p. AreDated k (n + 1) (with_prio t p now.queue.arrivals)) (sym is) (subst (λ m. AreDated k m (with_prio t (home_prio k t) now.queue.arrivals)) (next_of n) (one_dated k n t now.queue.arrivals dating.first there));
-}
-
--- and all have theirs, where there are no more
-pub dating_ends : (k : Plain) (n : ℕ) (before now : SemaphoreState) → IsDating k n before now → length now.queue.arrivals ≤ n → now ≡ record before { queue = up_to_date_by k Priority before.queue }
-dating_ends k n before now dating few =
-    let whole : now.queue.arrivals ≡ map (with_present_prio k) now.queue.arrivals = sym (take_all n now.queue.arrivals few) ∙ dating.first ∙ take_all n (map (with_present_prio k) now.queue.arrivals) (rw (length-map now.queue.arrivals (with_present_prio k)) few) in
-    dating.same ∙ ap (λ ws. (let x : SemaphoreState = record before { queue = record before.queue { arrivals = ws } } in x)) (whole ∙ dating.all)
-
--- there are as many waiters as before
-pub dating_length : (k : Plain) (n : ℕ) (before now : SemaphoreState) → IsDating k n before now → length now.queue.arrivals ≡ length before.queue.arrivals
-dating_length k n before now dating = sym (length-map now.queue.arrivals (with_present_prio k)) ∙ ap length dating.all ∙ length-map before.queue.arrivals (with_present_prio k)
-
--- Groups in which the first waiters of a semaphore were brought up to date.
-pub record IsUpdating (k : Plain) (n : ℕ) (old : List GroupPart) (i : ℕ) (now : List GroupPart) : Type 0 where
-  pub puts : PutsSemaphore old i (semaphore_lent now i) now
-  pub dating : IsDating k n (semaphore_lent old i) (semaphore_lent now i)
-
-pub updating_starts : (k : Plain) (groups : List GroupPart) (i : ℕ) → IsUpdating k 0 groups i groups
-updating_starts k groups i = record {
-  puts = record { semaphores = sym (with_nth-still no_semaphore (semaphores_of groups) i); barriers = refl; partitions = refl; periods = refl; kept = refl };
-  dating = dating_starts k (semaphore_lent groups i);
-}
-
-pub updating_next : (k : Plain) (n : ℕ) (old mid now : List GroupPart) (i t prio : ℕ) → 1 ≤ i → i ≤ 64 → IsUpdating k n old i mid → slice_get (threads (semaphore_lent mid i).queue.arrivals) n ≡ Some t → prio ≡ home_prio k t → PutsSemaphore mid i (with_prio_of t prio (semaphore_lent mid i)) now → IsUpdating k (n + 1) old i now
-updating_next k n old mid now i t prio low high updating there is puts =
-    let x = with_prio_of t prio (semaphore_lent mid i) in
-    let stands = sym (put_there mid now i x low high puts) in
-    record {
-      puts = subst (λ y. PutsSemaphore old i y now) stands (put_twice old mid now i (semaphore_lent mid i) x updating.puts puts);
-      dating = subst (IsDating k (n + 1) (semaphore_lent old i)) stands (dating_next k n t prio (semaphore_lent old i) (semaphore_lent mid i) updating.dating there is);
-    }
-
--- there are no more waiters
-no_more : (waiters : List Waiter) (n : ℕ) → slice_get (threads waiters) n ≡ None → length waiters ≤ n
-no_more [] n there = omega arith
-no_more (waiter ∷ waiters) zero there = let no : ⊥ = cc in absurd no
-no_more (waiter ∷ waiters) (suc n) there = omega (arith, no_more waiters n there)
-
-pub updating_stops : (k : Plain) (n : ℕ) (old now : List GroupPart) (i : ℕ) → IsUpdating k n old i now → slice_get (threads (semaphore_lent now i).queue.arrivals) n ≡ None → PutsSemaphore old i (let x : SemaphoreState = record (semaphore_lent old i) { queue = up_to_date_by k Priority (semaphore_lent old i).queue } in x) now
-updating_stops k n old now i updating there = subst (λ y. PutsSemaphore old i y now) (dating_ends k n (semaphore_lent old i) (semaphore_lent now i) updating.dating (no_more (semaphore_lent now i).queue.arrivals n there)) updating.puts
-
-pub updating_ends : (k : Plain) (n : ℕ) (old now : List GroupPart) (i : ℕ) → IsUpdating k n old i now → length (semaphore_lent old i).queue.arrivals ≤ n → PutsSemaphore old i (let x : SemaphoreState = record (semaphore_lent old i) { queue = up_to_date_by k Priority (semaphore_lent old i).queue } in x) now
-updating_ends k n old now i updating few =
-    let size = dating_length k n (semaphore_lent old i) (semaphore_lent now i) updating.dating in
-    subst (λ y. PutsSemaphore old i y now) (dating_ends k n (semaphore_lent old i) (semaphore_lent now i) updating.dating (omega (arith, size, few))) updating.puts
-
--- the thread at a place waits
-got_has : (ts : List ℕ) (n t : ℕ) → slice_get ts n ≡ Some t → has ts t ≡ true
-got_has [] n t there = let no : ⊥ = cc in absurd no
-got_has (u ∷ us) zero t there = let same : u ≡ t = cc in or_front (has us t) (equal_test u t same)
-got_has (u ∷ us) (suc n) t there = or_back (u == t) (got_has us n t there)
-
-pub updating_waits : (k : Plain) (n : ℕ) (old now : List GroupPart) (i t : ℕ) (found : Option ℕ) → found ≡ slice_get (threads (semaphore_lent now i).queue.arrivals) n → found ≡ Some t → has (threads (semaphore_lent now i).queue.arrivals) t ≡ true
-updating_waits k n old now i t found is there = got_has (threads (semaphore_lent now i).queue.arrivals) n t (sym is ∙ there)
+  row = ap (λ p. create k Semaphore name (create_refusal spec p) place) (sym (prio ∙ home_prio_lent s table parts groups t)) ∙ ap (λ r. create k Semaphore name r place) (sym refused) ∙ (made k).0 place
 
 -- ---- what a caller creates
 
--- what isn't refused has no protocol, and is judged well
+-- what isn't refused isn't MrsP, and is judged well
 pub accepted_kept : (spec : SemSpec) (urgency : ℕ) → create_refusal spec urgency ≡ None → is_mrsp spec.protocol ≡ false
-accepted_kept spec urgency accepted = at spec.protocol accepted where
-  at : (protocol : Protocol) → cond (has_protocol protocol) (Some NotDefined) (spec_refusal spec urgency) ≡ None → is_mrsp protocol ≡ false
-  at NoProtocol e = refl
-  at Inherit e = refl
-  at Ceiling e = refl
-  at Mrsp e = let no : ⊥ = cc in absurd no
+accepted_kept spec urgency accepted = at (is_mrsp spec.protocol) accepted where
+  at : (b : Bool) → cond b (Some NotDefined) (spec_refusal spec urgency) ≡ None → b ≡ false
+  at true e = let no : ⊥ = cc in absurd no
+  at false e = refl
 
 pub accepted_judged : (spec : SemSpec) (urgency : ℕ) (by : Caller) → by.prio ≡ urgency → create_refusal spec urgency ≡ None → judged spec by ≡ Successful
-accepted_judged spec urgency by same accepted = ap (λ p. status_of_refusal (spec_refusal spec p)) same ∙ at (has_protocol spec.protocol) accepted where
+accepted_judged spec urgency by same accepted = ap (λ p. status_of_refusal (spec_refusal spec p)) same ∙ at (is_mrsp spec.protocol) accepted where
   at : (b : Bool) → cond b (Some NotDefined) (spec_refusal spec urgency) ≡ None → status_of_refusal (spec_refusal spec urgency) ≡ Successful
   at true e = let no : ⊥ = cc in absurd no
   at false e = ap status_of_refusal e
+
+-- one that isn't MrsP is refused as it is judged: not, where it is judged well,
+pub judged_refusal : (spec : SemSpec) (urgency : ℕ) → spec.protocol ≢ Mrsp → spec_refusal spec urgency ≡ create_refusal spec urgency
+judged_refusal spec urgency differs = ap (λ b. cond b (Some NotDefined) (spec_refusal spec urgency)) (sym (by spec.protocol differs)) where
+  by : (protocol : Protocol) → protocol ≢ Mrsp → is_mrsp protocol ≡ false
+  by NoProtocol other = refl
+  by Inherit other = refl
+  by Ceiling other = refl
+  by Mrsp other = absurd (other refl)
+
+pub judged_well : (spec : SemSpec) (urgency : ℕ) → status_of_refusal (spec_refusal spec urgency) ≡ Successful → spec_refusal spec urgency ≡ None
+judged_well spec urgency = first (has_undefined_protocol spec) (has_great_count spec) (is_owned_mrsp spec) (has_invalid_ceiling spec) (is_below_ceiling spec urgency) where
+  refusal : (a b c d e : Bool) → Option Status
+  refusal a b c d e = cond a (Some NotDefined) (cond b (Some InvalidNumber) (cond c (Some InvalidNumber) (cond d (Some InvalidPriority) (cond e (Some InvalidPriority) None))))
+
+  first : (a b c d e : Bool) → status_of_refusal (refusal a b c d e) ≡ Successful → refusal a b c d e ≡ None
+  first true b c d e q = let no : ⊥ = cc in absurd no
+  first false true c d e q = let no : ⊥ = cc in absurd no
+  first false false true d e q = let no : ⊥ = cc in absurd no
+  first false false false true e q = let no : ⊥ = cc in absurd no
+  first false false false false true q = let no : ⊥ = cc in absurd no
+  first false false false false false q = refl
+
+-- and with the status of that, where it isn't
+pub judged_ill : (refusal : Option Status) (status : Status) → status_of_refusal refusal ≡ status → status ≢ Successful → refusal ≡ Some status
+judged_ill None status is ill = absurd (ill (sym is))
+judged_ill (Some other) status is ill = ap (λ s. Some s) is
 
 -- a row that is done where the state becomes this
 pub done_both : (s : Scenario) (change : Plain → Plain) (old new : List ClusterPart) (groups groups' : List GroupPart) (answer : Answer) → answer ≡ told.Done Successful 0 None → BecomesBoth s change old groups new groups' → DoesBoth s (λ k. done 0 (change k)) answer old groups new groups'
@@ -746,6 +670,7 @@ deletes_owned s old groups table i t owned =
       state = λ laid. ap (λ b. changed k (cond b (Refused ResourceInUse) (done 0 (without_semaphore k i)))) (sym test);
       laid = λ laid. laid;
       kept = refl;
+      accounts = refl;
       framed = refl;
       held = λ h. h;
     }
@@ -759,6 +684,7 @@ deletes_unowned s old new groups groups' table table' i answer unowned is become
       state = λ laid. becomes.state laid ∙ ap (λ b. changed k (cond b (Refused ResourceInUse) (done 0 (without_semaphore k i)))) (sym test);
       laid = becomes.laid;
       kept = becomes.kept;
+      accounts = becomes.accounts;
       framed = becomes.framed;
       held = becomes.held;
     }

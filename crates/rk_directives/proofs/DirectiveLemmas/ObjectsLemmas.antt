@@ -17,17 +17,18 @@ use Rattle.rk_parts.specs.declared.parts.ClusterPart.{ClusterPart}
 use Rattle.rk_groups.specs.declared.group.GroupPart.{GroupPart}
 use Rattle.rk_parts.specs.Holdings.{holdings}
 use Rattle.rk_parts.specs.Joined.{joined}
-use Rattle.rk_parts.specs.Lent.{AreLaid, layouts, stored}
+use Rattle.rk_parts.specs.Lent.{AreLaid, accounts, layouts, stored}
 use Rattle.rk_directives.specs.Does.{Creates, DoesWide, with_table}
 
 -- an object got an index and its name, and was put there: it was created
 pub created : (s : Scenario) (class : Class) (name index : ℕ) (refusal : Option Status) (put : Plain → ℕ → Plain → Plain) (answer : Answer) (old new : List ClusterPart) (table table' : Table) → ((k : Plain) → Creates (with_table k table) class name refusal (Ok index) (with_table k table')) → answer ≡ Done Successful (id_of class index) None →
-    ((groups : List GroupPart) → AreLaid s.clusters (layouts old) → joined s table' new groups ≡ put (joined s table old groups) index (joined s table' old groups)) → (AreLaid s.clusters (layouts old) → AreLaid s.clusters (layouts new)) → stored new ≡ stored old → holdings new ≡ holdings old → DoesWide s (λ k. create k class name refusal (put k)) answer old table new table'
-created s class name index refusal put answer old new table table' creates is state laid kept held = record {
+    ((groups : List GroupPart) → AreLaid s.clusters (layouts old) → joined s table' new groups ≡ put (joined s table old groups) index (joined s table' old groups)) → (AreLaid s.clusters (layouts old) → AreLaid s.clusters (layouts new)) → stored new ≡ stored old → accounts new ≡ accounts old → holdings new ≡ holdings old → DoesWide s (λ k. create k class name refusal (put k)) answer old table new table'
+created s class name index refusal put answer old new table table' creates is state laid kept noted held = record {
   told = λ groups. (let k = joined s table old groups in is ∙ ap answer_of (sym (creates k (put k))));
   state = λ groups lies. (let k = joined s table old groups in state groups lies ∙ ap (changed k) (sym (creates k (put k))));
   laid = laid;
   kept = kept;
+  accounts = noted;
   held = held;
 }
 
@@ -38,6 +39,7 @@ refused s class name refusal put status old table table' creates = record {
   state = λ groups lies. (let k = joined s table old groups in (creates k).1 ∙ ap (changed k) (sym ((creates k).0 (put k))));
   laid = λ lies. lies;
   kept = refl;
+  accounts = refl;
   held = refl;
 }
 

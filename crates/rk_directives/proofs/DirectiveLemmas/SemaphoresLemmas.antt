@@ -14,7 +14,8 @@ use Rattle.rk_model.specs.declared.state.Thread.{Thread}
 use Rattle.rk_model.specs.declared.state.Wait.{Wait}
 use Rattle.rk_model.specs.declared.state.Wait.TheVariants.{ForTime, ForEvents, AtBarrier, ForPeriod, ForSemaphore}
 use Rattle.rk_model.specs.declared.status.Status.{Status}
-use Rattle.rk_model.specs.declared.status.Status.TheVariants.{Successful, Unsatisfied, IncorrectState, NotOwnerOfResource, ObjectWasDeleted}
+use Rattle.rk_model.specs.declared.status.Status.TheVariants.{Successful, NotDefined, Unsatisfied, IncorrectState, InvalidPriority, NotOwnerOfResource, ObjectWasDeleted}
+use Rattle.rk_model.specs.declared.waiting.Caller.{Caller}
 use Rattle.rk_model.specs.declared.waiting.Order.{Order}
 use Rattle.rk_model.specs.declared.waiting.Order.TheVariants.{Fifo, Priority}
 use Rattle.rk_model.specs.declared.waiting.Waiter.{Waiter}
@@ -23,9 +24,10 @@ use Rattle.rk_model.specs.Names.{taken as taken_names}
 use Rattle.rk_model.specs.Queues.{Queue, threads, without, served_by, first_of}
 use Rattle.rk_model.specs.State.{Plain, SemaphoreState, objects_of, no_thread, no_semaphore, thread_at, semaphore_at, put_semaphore}
 use Rattle.rk_model.specs.Directives.Objects.{has_begun, object_named, put_names, without_object}
-use Rattle.rk_model.specs.Directives.Semaphores.{is_binary, is_mrsp, owned_by, free_semaphore, new_semaphore, is_owned, owns, is_free, Obtaining, Nests, Takes, NotObtained, Enters, nesting_by, obtaining_later, nested, taken, Releasing, NotReleased, Unnests, Serves, Frees, releasing_to, releasing, unnested, handed_to, freed, freed_by, is_full, flushed, with_present_prio, up_to_date_by, up_to_date, semaphore_create, semaphore_ident, reaches_from, obtained_at, semaphore_obtain, served_at, released_at, semaphore_release, emptied_at, semaphore_flush, without_semaphore, semaphore_delete}
-use Rattle.rk_model.specs.Directives.Waits.{Object, OfBarrier, OfSemaphore, object_of_wait, is_for, arrivals_in, stop_wait, stop_each, bare}
+use Rattle.rk_model.specs.Directives.Semaphores.{is_binary, is_mrsp, owned_by, free_semaphore, new_semaphore, is_owned, owns, is_free, Obtaining, Nests, Takes, NotObtained, Enters, is_elsewhere, is_less, nesting_by, obtaining_again, obtaining_later, nested, taken, Releasing, NotReleased, Unnests, Serves, Frees, releasing_to, releasing, unnested, handed_to, freed, freed_by, is_full, flushed, with_present_prio, up_to_date_by, up_to_date, semaphore_create, semaphore_ident, reaches_from, obtained_at, semaphore_obtain, served_at, released_at, semaphore_release, emptied_at, semaphore_flush, without_semaphore, semaphore_delete, CeilingSetting, NotSet, Keeps, Sets, with_ceiling, set_at, semaphore_set_priority}
+use Rattle.rk_model.specs.Directives.Waits.{Object, OfBarrier, OfSemaphore, object_of_wait, is_for, arrivals_in, caller_at, stop_wait, stop_each, bare}
 use Rattle.rk_model.specs.Scheduling.Chains.{ends_by, reaches, owner_awaited, waits_on}
+use Rattle.rk_model.specs.Scheduling.Priorities.{ceiling_in, home_prio}
 use Rattle.rk_model.proofs.BooleanLemmas.{equal_test, same_number, or_front, or_back}
 use Rattle.rk_model.proofs.ChainLemmas.{StaysIn, ends_within}
 use Rattle.rk_model.proofs.CountLemmas.{has_none, times-has, times_none}
@@ -41,7 +43,7 @@ use Rattle.rk_directives.proofs.TieLemmas.{HasOneMore, awaited, tied_semaphore, 
 use Rattle.rk_directives.proofs.ThreadBoundsLemmas.{bounds_at}
 use Rattle.rk_directives.proofs.WaitChainLemmas.{IsClearOf, MayJoin, chained_handed, chained_owners}
 use Rattle.rk_directives.proofs.GentleChangeLemmas.{gentle_same, gentle_but_more, gentle_stop_wait, in_call_begun, waits_calls, Stays}
-use Rattle.rk_directives.proofs.OutcomeLemmas.{stays_as, IsFair, gentle_limited, fair_refused, fair_done, fair_waiting, fair_found, fair_create, fair_ident, fair_if}
+use Rattle.rk_directives.proofs.OutcomeLemmas.{stays_as, stays_same, IsFair, gentle_limited, fair_refused, fair_done, fair_waiting, fair_found, fair_create, fair_ident, fair_if}
 
 -- ---- a semaphore is put
 
@@ -184,11 +186,11 @@ record IsNew (t : ℕ) (sem : SemaphoreState) : Type 0 where
   queue : waiting sem ≡ []
   owner : (sem.owner ≡ None) ⊎ (sem.owner ≡ Some t)
 
-is_new : (spec : SemSpec) (t : ℕ) → IsNew t (new_semaphore spec t)
-is_new spec t = by (is_binary spec.kind && (spec.count == 0)) where
-  by : (b : Bool) → IsNew t (cond b (owned_by t (free_semaphore spec)) (free_semaphore spec))
-  by true = record { live = refl; queue = refl; owner = inr refl }
-  by false = record { live = refl; queue = refl; owner = inl refl }
+is_new : (spec : SemSpec) (by : Caller) → IsNew by.thread (new_semaphore spec by)
+is_new spec by = owning (is_binary spec.kind && (spec.count == 0)) where
+  owning : (b : Bool) → IsNew by.thread (cond b (owned_by by.thread (free_semaphore spec by.home)) (free_semaphore spec by.home))
+  owning true = record { live = refl; queue = refl; owner = inr refl }
+  owning false = record { live = refl; queue = refl; owner = inl refl }
 
 founded : (k : Plain) (t index : ℕ) (free : List ℕ) (name : ℕ) (sem : SemaphoreState) → IsCaller k t → IsNew t sem → k.table.semaphores.free ≡ index ∷ free → IsGentle k (put_semaphore (put_names k Semaphore (taken_names k.table.semaphores index free name)) index sem)
 founded k t index free name sem caller new is =
@@ -211,7 +213,7 @@ founded k t index free name sem caller new is =
     }
 
 pub semaphore_create_fair : (k : Plain) (t name : ℕ) (spec : SemSpec) → IsCaller k t → IsFair k t (semaphore_create k t name spec)
-semaphore_create_fair k t name spec caller = fair_create k t Semaphore name _ _ (λ index free is. stays_as k _ t caller (founded k t index free name (new_semaphore spec t) caller (is_new spec t) is) refl)
+semaphore_create_fair k t name spec caller = fair_create k t Semaphore name _ _ (λ index free is. stays_as k _ t caller (founded k t index free name (new_semaphore spec (caller_at k t)) caller (is_new spec (caller_at k t)) is) refl)
 
 pub semaphore_ident_fair : (k : Plain) (t name : ℕ) → IsCaller k t → IsFair k t (semaphore_ident k name)
 semaphore_ident_fair k t name caller = fair_ident k t Semaphore name caller
@@ -271,14 +273,30 @@ later_fair k t i NoWait caller lives = fair_refused k t _
 later_fair k t i (Limit ticks) caller lives = obtained_if k t i (is_owned (semaphore_at k i) && reaches_from k (semaphore_at k i).owner t) (NotObtained IncorrectState) (Enters ticks) (λ _. fair_refused k t _)
     (λ apart. fair_waiting k t _ (gentle_limited k t (ForSemaphore i (is_mrsp (semaphore_at k i).protocol)) ticks caller lives refl (λ _. refl) (may_join k t i (is_mrsp (semaphore_at k i).protocol) caller apart)))
 
+-- the owner obtains it once more
+again_fair : (k : Plain) (t i : ℕ) → IsCaller k t → (semaphore_at k i).live ≡ true → IsFair k t (obtained_at k t i (obtaining_again (semaphore_at k i)))
+again_fair k t i caller lives =
+    obtained_if k t i (is_mrsp (semaphore_at k i).protocol) (NotObtained Unsatisfied) (nesting_by (semaphore_at k i)) (λ _. fair_refused k t _)
+    (λ _. obtained_if k t i ((semaphore_at k i).nesting == 18446744073709551615) (NotObtained Unsatisfied) Nests (λ _. fair_refused k t _)
+    (λ _. fair_done k t _ _ _ _ refl (stays_as k _ t caller (same_owner k i (nested (semaphore_at k i)) caller.acts.sound lives lives refl refl) refl)))
+
+-- who doesn't own it takes it, waits or is refused
+other_fair : (k : Plain) (t i : ℕ) (wish : Wish) → IsCaller k t → (semaphore_at k i).live ≡ true → IsFair k t (obtained_at k t i (cond (is_free (semaphore_at k i)) Takes (obtaining_later wish (reaches_from k (semaphore_at k i).owner t) (semaphore_at k i))))
+other_fair k t i wish caller lives =
+    obtained_if k t i (is_free (semaphore_at k i)) Takes (obtaining_later wish (reaches_from k (semaphore_at k i).owner t) (semaphore_at k i))
+    (λ _. fair_done k t _ _ _ _ refl (stays_as k _ t caller (taken_gentle k t i caller lives) refl))
+    (λ _. later_fair k t i wish caller lives)
+
 pub semaphore_obtain_fair : (k : Plain) (t : ℕ) (id : Target) (wish : Wish) → IsCaller k t → IsFair k t (semaphore_obtain k t id wish)
 semaphore_obtain_fair k t id wish caller = fair_found k t (object_named k t Semaphore id) _ (λ i is.
     (let lives = semaphore_lives k t id i is in
-    obtained_if k t i (owns t (semaphore_at k i)) (nesting_by (semaphore_at k i)) _
-    (λ _. obtained_if k t i _ (NotObtained Unsatisfied) Nests (λ _. fair_refused k t _) (λ _. fair_done k t _ _ _ _ refl (stays_as k _ t caller (same_owner k i (nested (semaphore_at k i)) caller.acts.sound lives lives refl refl) refl)))
-    (λ _. obtained_if k t i (is_free (semaphore_at k i)) Takes _
-    (λ _. fair_done k t _ _ _ _ refl (stays_as k _ t caller (taken_gentle k t i caller lives) refl))
-    (λ _. later_fair k t i wish caller lives))))
+    let sem = semaphore_at k i in
+    let free = cond (is_free sem) Takes (obtaining_later wish (reaches_from k sem.owner t) sem) in
+    let high = cond (is_less (home_prio k t) (ceiling_in (thread_at k t).home sem)) (NotObtained InvalidPriority) free in
+    obtained_if k t i (is_elsewhere (thread_at k t).home sem) (NotObtained NotDefined) (cond (owns t sem) (obtaining_again sem) high) (λ _. fair_refused k t _)
+    (λ _. obtained_if k t i (owns t sem) (obtaining_again sem) high (λ _. again_fair k t i caller lives)
+    (λ _. obtained_if k t i (is_less (home_prio k t) (ceiling_in (thread_at k t).home sem)) (NotObtained InvalidPriority) free (λ _. fair_refused k t _)
+    (λ _. other_fair k t i wish caller lives)))))
 
 -- ---- release
 
@@ -477,3 +495,13 @@ not_owned (Some t) sem e free = absurd (false≢true (sym free ∙ ap some_of e)
 pub semaphore_delete_fair : (k : Plain) (t : ℕ) (id : Target) → IsCaller k t → IsFair k t (semaphore_delete k t id)
 semaphore_delete_fair k t id caller = fair_found k t (object_named k t Semaphore id) _ (λ i is. fair_if k t (is_owned (semaphore_at k i)) _ _ (λ _. fair_refused k t _)
     (λ free. fair_done k t _ _ _ _ refl (deleted_stays k t i caller (semaphore_lives k t id i is) (not_owned (semaphore_at k i).owner (semaphore_at k i) refl free))))
+
+-- ---- set_priority
+
+setting_fair : (k : Plain) (t i c prio : ℕ) (setting : CeilingSetting) → IsCaller k t → (semaphore_at k i).live ≡ true → IsFair k t (set_at k i c prio setting)
+setting_fair k t i c prio (NotSet status) caller lives = fair_refused k t _
+setting_fair k t i c prio Keeps caller lives = fair_done k t _ _ _ _ refl (stays_same k t caller)
+setting_fair k t i c prio Sets caller lives = fair_done k t _ _ _ _ refl (stays_as k _ t caller (same_owner k i (with_ceiling c prio (semaphore_at k i)) caller.acts.sound lives lives refl refl) refl)
+
+pub semaphore_set_priority_fair : (k : Plain) (t : ℕ) (id : Target) (c prio : ℕ) → IsCaller k t → IsFair k t (semaphore_set_priority k t id c prio)
+semaphore_set_priority_fair k t id c prio caller = fair_found k t (object_named k t Semaphore id) _ (λ i is. setting_fair k t i c prio _ caller (semaphore_lives k t id i is))

@@ -11,15 +11,15 @@ use Rattle.rk_model.specs.declared.state.Wait.TheVariants.{ForTime}
 use Rattle.rk_model.specs.declared.state.Armer.TheVariants.{Thread as OfThread}
 use Rattle.rk_model.specs.Names.{with_names, taken, given_back}
 use Rattle.rk_model.specs.State.{Plain, SemaphoreState, objects_of, no_thread, no_semaphore, thread_at, put_thread}
-use Rattle.rk_model.specs.Directives.Semaphores.{is_thread, owns, has_obtained}
+use Rattle.rk_model.specs.Directives.Semaphores.{owns, has_obtained}
 use Rattle.rk_model.specs.Scheduling.Timers.{cancel}
-use Rattle.rk_model.specs.Scheduling.Priorities.{is_started}
+use Rattle.rk_model.specs.Scheduling.Priorities.{is_one, is_started, prio}
 use Rattle.rk_model.specs.Lists.{nth}
 use Rattle.rk_model.specs.Directives.Outcomes.{arrived}
 use Rattle.rk_model.specs.Directives.Waits.{object_of_wait, is_for, leave}
 use Rattle.rk_model.specs.Directives.Objects.{put_names, live_one}
 use Rattle.rk_model.specs.Directives.Objects.{has_begun}
-use Rattle.rk_model.specs.Directives.Tasks.{task_named, dormant_in, prio_refusal, task_create, task_ident, is_dormant, with_started, task_start, with_suspended, task_suspend, task_resume, task_set_priority, without_task, has_created, task_delete, task_exit, task_wake_after}
+use Rattle.rk_model.specs.Directives.Tasks.{task_named, dormant_in, prio_refusal, task_create, task_ident, is_dormant, with_started, task_start, with_suspended, task_suspend, task_resume, task_set_priority, told_prio, task_get_priority, without_task, has_created, task_delete, task_exit, task_wake_after}
 use Rattle.rk_parts.proofs.PutLemmas.{lives_within}
 use Rattle.rk_directives.specs.Calls.{IsActing, IsCaller}
 use Rattle.rk_directives.specs.Sound.{IsSound, IsInBounds, IsGentle, but_none, but_one, may_time_out, is_in_call}
@@ -138,11 +138,18 @@ pub task_set_priority_fair : (k : Plain) (t : ℕ) (id : Target) (prio : ℕ) �
 task_set_priority_fair k t id prio caller = fair_found k t (task_named k t id) _ (λ u is. fair_if k t (nat_lt 255 prio) _ _ (λ _. fair_refused k t _) (λ _. fair_if k t (eqb prio 0) _ _ (λ _. fair_done k t _ _ _ _ refl (stays_same k t caller))
     (λ _. (let lives = found_lives k t id u caller is in fair_done k t _ _ _ _ refl (stays_put k k t u (record (thread_at k u) { base = prio }) (stays_same k t caller) refl refl refl refl lives lives (bounds_at k u caller.acts.sound))))))
 
+told_fair : (k : Plain) (t : ℕ) (o : Option ℕ) → IsCaller k t → IsFair k t (told_prio k o)
+told_fair k t None caller = fair_refused k t _
+told_fair k t (Some p) caller = fair_done k t _ _ _ _ refl (stays_same k t caller)
+
+pub task_get_priority_fair : (k : Plain) (t : ℕ) (id : Target) (c : ℕ) → IsCaller k t → IsFair k t (task_get_priority k t id c)
+task_get_priority_fair k t id c caller = fair_found k t (task_named k t id) _ (λ u _. told_fair k t (prio k u c) caller)
+
 -- who owns a semaphore is found among the owners
 obtained_one : (semaphores : List SemaphoreState) (i u : ℕ) → (nth no_semaphore semaphores i).owner ≡ Some u → has_obtained semaphores u ≡ true
 obtained_one semaphores zero u owner = let no : ⊥ = cc in absurd no
 obtained_one [] (suc i) u owner = let no : ⊥ = cc in absurd no
-obtained_one (sem ∷ semaphores) (suc zero) u owner = let same : owns u sem ≡ true = ap (is_thread u) owner ∙ equal_test u u refl in or_front (has_obtained semaphores u) same
+obtained_one (sem ∷ semaphores) (suc zero) u owner = let same : owns u sem ≡ true = ap (is_one u) owner ∙ equal_test u u refl in or_front (has_obtained semaphores u) same
 obtained_one (sem ∷ semaphores) (suc (suc i)) u owner = or_back (owns u sem) (obtained_one semaphores (suc i) u owner)
 
 -- a live task is deleted that owns no semaphore

@@ -45,6 +45,9 @@ perform_narrow-requires-clause-held c = c.requires.whole.held
 pub perform_narrow-requires-clause-queue : goal.perform_narrow-requires-clause-queue
 perform_narrow-requires-clause-queue c = λ object _ t. c.requires.acts.sound.tied.queued t refl object
 
+pub perform_narrow-requires-clause-owned : goal.perform_narrow-requires-clause-owned
+perform_narrow-requires-clause-owned c = λ i t owner. c.requires.acts.sound.chained.owners i t owner
+
 pub returns-in-TaskCreate : goal.returns-in-TaskCreate
 returns-in-TaskCreate c = rw c.in-TaskCreate.is (all_wide c.args.all.now _ _ _ _ c.requires.whole (c.task_create.ensures c.args.all.now.scenario))
 

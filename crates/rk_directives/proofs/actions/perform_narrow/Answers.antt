@@ -1,3 +1,5 @@
+use Rattle.std.proofs.Common.{subst}
+use Rattle.rk_model.specs.Limits.{IsNear}
 use Rattle.rk_directives.proofs.DirectiveLemmas.LentLemmas.{does_both}
 use Rattle.rk_directives.proofs.actions.perform_narrow.Goals as goal
 
@@ -11,7 +13,10 @@ pub returns-in-TaskResume : goal.returns-in-TaskResume
 returns-in-TaskResume c = rw c.in-TaskResume.is (does_both _ _ _ _ _ _ (c.task_resume.ensures c.args.scenario.now))
 
 pub returns-in-TaskSetPriority : goal.returns-in-TaskSetPriority
-returns-in-TaskSetPriority c = rw c.in-TaskSetPriority.is (does_both _ _ _ _ _ _ (c.task_set_priority.ensures c.args.scenario.now))
+returns-in-TaskSetPriority c = rw c.in-TaskSetPriority.is (c.task_set_priority.ensures c.args.scenario.now)
+
+pub returns-in-TaskGetPriority : goal.returns-in-TaskGetPriority
+returns-in-TaskGetPriority c = rw c.in-TaskGetPriority.is (c.task_get_priority.ensures c.args.scenario.now)
 
 pub returns-in-TaskWakeAfter : goal.returns-in-TaskWakeAfter
 returns-in-TaskWakeAfter c = rw c.in-TaskWakeAfter.is (does_both _ _ _ _ _ _ (c.task_wake_after.ensures c.args.scenario.now))
@@ -36,6 +41,12 @@ returns-in-SemRelease c = rw c.in-SemRelease.is (c.semaphore_release.ensures c.a
 
 pub returns-in-SemFlush : goal.returns-in-SemFlush
 returns-in-SemFlush c = rw c.in-SemFlush.is (c.semaphore_flush.ensures c.args.scenario.now)
+
+pub semaphore_set_priority-requires-clause-near : goal.semaphore_set_priority-requires-clause-near
+semaphore_set_priority-requires-clause-near c = subst IsNear c.in-SemSetPriority.is c.requires.near
+
+pub returns-in-SemSetPriority : goal.returns-in-SemSetPriority
+returns-in-SemSetPriority c = rw c.in-SemSetPriority.is (c.semaphore_set_priority.ensures c.args.scenario.now)
 
 pub returns-in-BarrierWait : goal.returns-in-BarrierWait
 returns-in-BarrierWait c = rw c.in-BarrierWait.is (c.barrier_wait.ensures c.args.scenario.now)

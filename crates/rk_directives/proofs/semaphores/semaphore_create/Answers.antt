@@ -21,15 +21,15 @@ create-requires-in-Ok-clause-kept c = accepted_kept c.args.spec c.caller_of.resu
 
 -- the owner, if there is one, is the caller
 pub note-requires-clause-lives : goal.note-requires-clause-lives
-note-requires-clause-lives c = λ t is other.
+note-requires-clause-lives c = λ other t is.
     let there = put_there c.args.groups.now c.create-in-Ok.new.groups c.in-Ok.index _ c.in-Ok.ensures.within.0 c.in-Ok.ensures.within.1 c.create-in-Ok.ensures in
-    let own = created_owner c.args.spec c.caller_of-in-Ok.result.thread t (ap (λ (x : SemaphoreState). x.owner) (sym there) ∙ is) in
+    let own = created_owner c.args.spec c.caller_of-in-Ok.result t (ap (λ (x : SemaphoreState). x.owner) (sym there) ∙ is) in
     ap (λ n. has_begun (thread_lent c.args.clusters.now n).life) (sym own ∙ c.caller_of-in-Ok.ensures.thread) ∙ c.requires.lives
 
 pub returns-in-Err : goal.returns-in-Err
-returns-in-Err c = λ s. creates_none s c.args.clusters.now c.args.groups.now c.args.names.now c.create.new.table c.args.caller c.args.name.bits c.args.spec c.caller_of.result.prio c.create_refusal-refusal.result c.in-Err.status c.caller_of.ensures.prio c.create_refusal-refusal.ensures c.in-Err.ensures.made
+returns-in-Err c = λ s. creates_none s c.args.clusters.now c.args.groups.now c.args.names.now c.create.new.table c.args.caller c.args.name.bits c.args.spec c.caller_of.result.prio c.create_refusal-refusal.result c.in-Err.status (c.caller_of.ensures.prio ∙ c.requires.prios c.args.caller c.caller_of.ensures.one) c.create_refusal-refusal.ensures c.in-Err.ensures.made
 
 pub returns-in-Ok : goal.returns-in-Ok
-returns-in-Ok c = λ s. creates s c.args.clusters.now c.note.new.clusters c.args.groups.now c.create-in-Ok.new.groups c.args.names.now c.create.new.table c.args.caller c.args.name.bits c.in-Ok.index c.args.spec c.caller_of.result.prio c.caller_of-in-Ok.result.thread c.create_refusal-refusal.result c.done.result c.caller_of-in-Ok.ensures.thread c.caller_of.ensures.prio c.create_refusal-refusal.ensures c.in-Ok.ensures.made (c.done.ensures ∙ ap (λ bits. Done Successful bits None) c.of.ensures) c.create-in-Ok.ensures
+returns-in-Ok c = λ s. creates s c.args.clusters.now c.note.new.clusters c.args.groups.now c.create-in-Ok.new.groups c.args.names.now c.create.new.table c.args.caller c.args.name.bits c.in-Ok.index c.args.spec c.caller_of.result.prio c.caller_of-in-Ok.result c.create_refusal-refusal.result c.done.result c.caller_of-in-Ok.ensures.thread c.caller_of-in-Ok.ensures.home (c.caller_of.ensures.prio ∙ c.requires.prios c.args.caller c.caller_of.ensures.one) c.create_refusal-refusal.ensures c.in-Ok.ensures.made (c.done.ensures ∙ ap (λ bits. Done Successful bits None) c.of.ensures) c.create-in-Ok.ensures
     (c.note.ensures.comes s)
-    (noted_held c.args.clusters.now c.note.new.clusters c.args.groups.now c.create-in-Ok.new.groups c.in-Ok.index c.owner-before.result _ c.note.ensures c.owner-before.ensures refl (put_others c.args.groups.now c.create-in-Ok.new.groups c.in-Ok.index _ c.create-in-Ok.ensures))
+    (noted_held c.args.clusters.now c.note.new.clusters c.args.groups.now c.create-in-Ok.new.groups c.in-Ok.index c.holding-before.result _ c.note.ensures c.holding-before.ensures refl (put_others c.args.groups.now c.create-in-Ok.new.groups c.in-Ok.index _ c.create-in-Ok.ensures))

@@ -35,4 +35,5 @@ returns-in-Ok c = λ s.
     (λ groups lies. replaces.state s c.create.new.table groups lies)
     (λ lies. replaces.laid s.clusters lies (λ h. home_known s.clusters old c.args.caller lies c.requires.lives))
     replaces.kept
+    replaces.accounts
     replaces.held)
