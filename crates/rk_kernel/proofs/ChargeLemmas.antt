@@ -17,10 +17,10 @@ use Rattle.rk_model.specs.Scheduling.Seats.{cpu_at, cpu_count}
 use Rattle.rk_model.specs.Directives.Objects.{has_begun}
 use Rattle.rk_model.specs.Scheduling.Ticks.{charged, ticked, charge_from}
 use Rattle.rk_model.proofs.IndexLemmas.{nth-with_other, nth-with_same, length-with_nth}
-use Rattle.rk_parts.specs.Threads.{own_standing}
+use Rattle.rk_parts.specs.Threads.{bearing}
 use Rattle.rk_parts.specs.declared.parts.AllParts.{AllParts}
 use Rattle.rk_groups.specs.GroupObjects.{semaphores_of}
-use Rattle.rk_parts.specs.Holdings.{AreHeld, holdings}
+use Rattle.rk_parts.specs.Holdings.{AreHeld, holdings, holding_of}
 use Rattle.rk_parts.specs.Hosted.{could_run as could_run_by, scene_lent, AreHosted, ShowRunning}
 use Rattle.rk_parts.specs.Whole.{AreWhole}
 use Rattle.rk_parts.proofs.HoldingLemmas.{held_kept}
@@ -34,9 +34,9 @@ use Rattle.rk_directives.specs.Sound.{IsSound}
 use Rattle.rk_kernel.proofs.CallerLemmas.{runs_started}
 use Rattle.rk_kernel.proofs.TickLemmas.{charged_steady, length-charge_from}
 
--- a thread that is charged stands as before
-pub stands_charged : (s : Scenario) (thread : Thread) → own_standing (charged s thread) ≡ own_standing thread
-stands_charged s thread = charged_steady own_standing s thread (λ _ _ _ _. refl)
+-- a thread that is charged bears what it bore
+pub bears_charged : (s : Scenario) (thread : Thread) → bearing (charged s thread) ≡ bearing thread
+bears_charged s thread = charged_steady bearing s thread (λ _ _ _ _. refl)
 
 -- a thread after the processors in front of one have been gone through: charged where one of them runs it
 abbrev charged_by : Plain → ℕ → ℕ → Thread
@@ -147,7 +147,7 @@ pub show_charged : (k : Plain) (p : ℕ) (all old : AllParts) → k ≡ plain_of
 show_charged k p all old state whole hosted is =
     let laid = laid_charged k p all old whole.laid is in
     let kept : semaphores_of all.groups ≡ semaphores_of old.groups = ap (λ (n : Plain). n.semaphores) (is.rest ∙ ap (λ (m : Plain). (let n : Plain = record m { threads = threads_of all.clusters } in n)) state) in
-    let held : AreHeld (holdings all.clusters) (semaphores_of all.groups) = held_kept (holdings old.clusters) (holdings all.clusters) (semaphores_of old.groups) (semaphores_of all.groups) is.held (λ i. ap (λ (xs : List SemaphoreState). (nth no_semaphore xs i).owner) kept) whole.held in
+    let held : AreHeld (holdings all.clusters) (semaphores_of all.groups) = held_kept (holdings old.clusters) (holdings all.clusters) (semaphores_of old.groups) (semaphores_of all.groups) is.held (λ i. ap (λ (xs : List SemaphoreState). holding_of (nth no_semaphore xs i)) kept) whole.held in
     let same : scene_lent all.clusters ≡ scene_lent old.clusters =
     scene_joined all.scenario all.table.names all.groups all.clusters laid held
     ∙ scene_by_charged k p all old is ∙ ap scene state

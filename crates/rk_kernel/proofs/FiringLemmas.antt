@@ -1,5 +1,5 @@
 -- Timers that are due fire one after another, and each firing keeps a state sound.
-use Rattle.std.proofs.Common.{◌≡◌, ℕ, suc, ◌+◌, ◌<◌, ◌≤◌, List, [], ◌∷◌, Bool, true, false, cond, eqb, Option, None, Some, length, map, get_or, arith, refl, ap, sym, ◌∙◌, subst, ⊎_elim}
+use Rattle.std.proofs.Common.{◌≡◌, ℕ, zero, suc, ◌+◌, ◌<◌, ◌≤◌, List, [], ◌∷◌, Bool, true, false, cond, eqb, Option, None, Some, length, map, get_or, arith, refl, ap, sym, ◌∙◌, subst, ⊎_elim}
 use Rattle.std.specs.List.{slice_set}
 use Rattle.std.proofs.lemmas.List.{set-get_or, get_or_past, ext_get_or, length-map}
 use Rattle.std.proofs.lemmas.Bool.{false≢true, cases_lt}
@@ -24,12 +24,16 @@ use Rattle.rk_model.specs.declared.state.Wait.TheVariants.{ForTime, ForEvents, A
 use Rattle.rk_parts.specs.declared.parts.ClusterPart.{ClusterPart}
 use Rattle.rk_groups.specs.declared.group.GroupPart.{GroupPart}
 use Rattle.rk_parts.specs.declared.parts.AllParts.{AllParts}
-use Rattle.rk_parts.specs.Threads.{own_standing}
-use Rattle.rk_parts.specs.Holdings.{holdings}
+use Rattle.rk_parts.specs.Threads.{bearing, bearings_by, standings_by}
+use Rattle.rk_parts.specs.declared.holdings.Holding.{Holding}
+use Rattle.rk_parts.specs.Contributing.{flat}
+use Rattle.rk_parts.specs.Contributions.{bears}
+use Rattle.rk_parts.specs.Holdings.{holder, holdings}
 use Rattle.rk_parts.specs.Joined.{joined, placed_in, lives_in, numbered, present_of, threads_of, plain_of, thread_lent, timers_lent}
-use Rattle.rk_parts.specs.Lent.{found_in, AreLaid, Layout, layout, layouts, layout_at, lives_at, Stored, stored_in, Frame, frame, TakesDue}
-use Rattle.rk_parts.specs.Noted.{no_part, part_at, key_of, IsKeyed, AreNoted, settled_part, bare}
+use Rattle.rk_parts.specs.Lent.{found_in, AreLaid, Layout, layout, layouts, layout_at, lives_at, Account, account_in, Stored, stored_in, Frame, frame, TakesDue}
+use Rattle.rk_parts.specs.Noted.{no_part, part_at, key_of, IsKeyed, AreLent, AreNoted, settled_part, bare}
 use Rattle.rk_parts.specs.Firing.{due_now, FiresFirst}
+use Rattle.rk_parts.proofs.AccountLemmas.{same_account}
 use Rattle.rk_parts.proofs.HeldLemmas.{held_found, found_lives, nowhere_lives}
 use Rattle.rk_parts.proofs.LayoutLemmas.{Lie, lie, lives_is}
 use Rattle.rk_parts.proofs.LentTimerLemmas.{numbered_found, cluster_numbered, timers_home}
@@ -44,7 +48,7 @@ use Rattle.rk_directives.proofs.GentleChangeLemmas.{gentle_same, gentle_but, in_
 use Rattle.rk_directives.proofs.PeriodSoundLemmas.{fits_pass, times-dues, live_within}
 use Rattle.rk_directives.proofs.PeriodsKeptLemmas.{kept_sound, keeps_then, keeps_taken, keeps_end_wait}
 use Rattle.rk_kernel.proofs.PeriodEndLemmas.{taken_timers, ended_clusters, gentle_taken, passes, passed_left, passed_present, passed_settles}
-use Rattle.rk_parts.proofs.PutLemmas.{lives_within}
+use Rattle.rk_parts.proofs.PutLemmas.{lent_alike, lives_within}
 use Rattle.rk_directives.proofs.KeptHoldingLemmas.{still_held}
 use Rattle.rk_period.specs.Periods.{Fits}
 use Rattle.rk_kernel.proofs.SoundSettlingLemmas.{timers-settled_from}
@@ -308,41 +312,63 @@ places_same counts old new at laid lies same = ⊎_elim inside past (cases_lt at
   past : length old ≤ at → (part_at new at).threads.places ≡ (part_at old at).threads.places
   past more = ap (λ (p : ClusterPart). p.threads.places) (get_or_past new at no_part (omega (arith, more, count)) ∙ sym (get_or_past old at no_part more))
 
--- Parts with the same frame and the same threads note them as before.
-noted_same : (counts : List ℕ) (old new : List ClusterPart) (count : ℕ) → AreLaid counts (layouts old) → frame new ≡ frame old → threads_of new ≡ threads_of old → AreNoted count old → AreNoted count new
-noted_same counts old new count laid kept same noted = record {
-  stood = λ at. ap (λ (x : Stored). x.stood) (here at) ∙ noted.stood at ∙ ap (λ (xs : List Thread). map own_standing xs) (sym (places_same counts old new at laid (ap (λ (f : Frame). f.layouts) kept) same));
+owners_at : (parts : List ClusterPart) (at : ℕ) → get_or (holdings parts) at [] ≡ (part_at parts at).holdings.owners
+owners_at [] at = refl
+owners_at (p ∷ ps) zero = refl
+owners_at (p ∷ ps) (suc at) = owners_at ps at
+
+-- Parts with the same frame, threads and holdings note them as before.
+noted_same : (counts : List ℕ) (old new : List ClusterPart) (count : ℕ) → AreLaid counts (layouts old) → frame new ≡ frame old → threads_of new ≡ threads_of old → holdings new ≡ holdings old → AreNoted count old → AreNoted count new
+noted_same counts old new count laid kept same held noted = record {
+  borne = λ at. ap (λ (x : Account). x.borne) (account at) ∙ noted.borne at ∙ ap bearings_by (sym (places at));
+  held = λ at.
+      ap (λ (x : Account). x.held) (account at) ∙ noted.held at
+      ∙ sym (owners_at old at) ∙ ap (λ (hs : List (List (Option Holding))). get_or hs at []) (sym held) ∙ owners_at new at;
+  shares = lent_alike (bears old) (bears new) (holder (holdings old)) (holder (holdings new)) old new
+      (sym (length-map new stored_in) ∙ ap (λ (ss : List Stored). length ss) (ap (λ (f : Frame). f.stored) kept) ∙ length-map old stored_in)
+      (λ at i. record { number = (here at i).lined.number; shares = (account at i).shares })
+      (λ i t. bearing (nth no_thread (same i) t))
+      (ap holder held)
+      noted.shares;
+  stood = λ at. ap (λ (x : Stored). x.stood) (here at) ∙ noted.stood at ∙ (λ i. standings_by (sym (account at) i).shares (sym (places at) i));
   keyed = λ at known. subst (λ (x : Stored). x.lined.number < count → IsKeyed (key_of x.stood) x.lined.line) (sym (here at)) (noted.keyed at) known;
 } where
   here : (at : ℕ) → stored_in (part_at new at) ≡ stored_in (part_at old at)
   here at = same_stored old new at (ap (λ (f : Frame). f.stored) kept)
+
+  account : (at : ℕ) → account_in (part_at new at) ≡ account_in (part_at old at)
+  account at = same_account old new at (ap (λ (f : Frame). f.accounts) kept)
+
+  places : (at : ℕ) → (part_at new at).threads.places ≡ (part_at old at).threads.places
+  places at = places_same counts old new at laid (ap (λ (f : Frame). f.layouts) kept) same
 
 -- parts that stand for the same state, with the same frame and holdings, are ready as before
 pub ready_same : (all : AllParts) (new : List ClusterPart) → IsReady all → plain_of (record all { clusters = new }) ≡ plain_of all → frame new ≡ frame all.clusters → holdings new ≡ holdings all.clusters → IsReady (record all { clusters = new })
 ready_same all new ready same kept held = record {
   whole = whole_kept all (record all { clusters = new }) ready.whole (ap (λ (n : Plain). n.present) same) kept held refl refl;
   sound = subst IsSound (sym same) ready.sound;
-  noted = noted_same all.scenario.clusters all.clusters new (length all.scenario.clusters) ready.whole.laid kept (ap (λ (n : Plain). n.threads) same) ready.noted;
+  noted = noted_same all.scenario.clusters all.clusters new (length all.scenario.clusters) ready.whole.laid kept (ap (λ (n : Plain). n.threads) same) held ready.noted;
   hosted = hosted_kept all.clusters new (scene_stored all.clusters new (ap (λ (n : Plain). n.threads) same) held (ap (λ (f : Frame). f.stored) kept)) (ap (λ (f : Frame). f.stored) kept) ready.hosted;
 }
 
 -- The first timer that is due has fired in all parts, and they have settled.
-pub fired : (all : AllParts) (taken after new : List ClusterPart) (groups : List GroupPart) (c : ℕ) (x : Armed) → IsReady all → c < length all.scenario.clusters → Some x ≡ head_of (due_now (plain_of all) c) → TakesDue all.clusters c taken → BecomesBoth all.scenario (λ k. rung k x.who) taken all.groups after groups → map bare new ≡ map (settled_part []) after → HostsAll new →
+pub fired : (all : AllParts) (taken after made new : List ClusterPart) (groups : List GroupPart) (c : ℕ) (x : Armed) → IsReady all → c < length all.scenario.clusters → Some x ≡ head_of (due_now (plain_of all) c) → TakesDue all.clusters c taken → BecomesBoth all.scenario (λ k. rung k x.who) taken all.groups after groups → map flat made ≡ map flat after → AreLent (bears after) (holder (holdings after)) made → map bare new ≡ map (settled_part []) made → HostsAll new →
     AreSettled all (record all { clusters = new; groups = groups }) (expire (plain_of all) c x.who) []
-fired all taken after new groups c x ready known some takes rings done hosts =
+fired all taken after made new groups c x ready known some takes rings flats lent done hosts =
     let k = plain_of all in
     let mid : AllParts = record all { clusters = after; groups = groups } in
     let laid : AreLaid all.scenario.clusters (layouts taken) = subst (AreLaid all.scenario.clusters) (sym (ap (λ (f : Frame). f.layouts) takes.kept)) ready.whole.laid in
-    settled all mid new (expire k c x.who) [] (as_settled all ready)
+    settled all mid made new (expire k c x.who) [] (as_settled all ready)
     (record {
       settles = expire_settles k c (rest_of (due_now k c)) x ready.sound (within_clusters all c known) (head_some (due_now k c) x some);
       state = expired k (plain_of (record all { clusters = taken })) (plain_of mid) c x (takes.state all.scenario all.table.names all.groups known) (rings.state all.table.names laid);
       laid = subst (AreLaid all.scenario.clusters) (sym (ap (λ (f : Frame). f.layouts) rings.kept)) laid;
       kept = ap (λ (f : Frame). f.stored) (rings.kept ∙ takes.kept);
+      accounts = ap (λ (f : Frame). f.accounts) (rings.kept ∙ takes.kept);
       held = rings.held (still_held all.clusters taken all.groups all.groups takes.held (λ i. refl) ready.whole.held);
       rest = λ i. record { scenario = all.scenario; groups = rings.framed i; time = all.table.present };
     })
-    done hosts
+    flats lent done hosts
 
 -- ---- how many are due
 

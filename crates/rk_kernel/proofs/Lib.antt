@@ -1,6 +1,7 @@
 pub mod ReadyQueueLemmas
 pub mod SoundSettlingLemmas
 pub mod RunsLemmas
+pub mod BearingLemmas
 pub mod CallerLemmas
 pub mod InitNamesLemmas
 pub mod OpeningLemmas
@@ -20,6 +21,7 @@ pub mod ReadyQueueLaws
 pub mod SeatLemmas
 pub mod UrgencyLaws
 pub mod RunnerLaws
+pub mod PriorityLaws
 pub mod HelpingLaws
 pub mod ActionLaws
 pub mod StillSettlingLemmas

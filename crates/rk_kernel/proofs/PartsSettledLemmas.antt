@@ -1,18 +1,24 @@
 -- All parts after a gentle change, and after settling.
-use Rattle.std.proofs.Common.{◌≡◌, ℕ, ◌<◌, ◌≤◌, List, Option, Some, None, length, map, replicate, sym, ap, ◌∙◌, subst, arith}
+use Rattle.std.proofs.Common.{◌≡◌, ℕ, ◌<◌, ◌≤◌, List, Bool, true, false, Option, Some, None, length, map, replicate, refl, sym, ap, ◌∙◌, subst, arith, [], ◌∷◌, ◌==◌, ◌&&◌, cond, ◌≢◌}
+use Rattle.std.proofs.lemmas.Bool.{false≢true}
 use Rattle.std.proofs.lemmas.List.{length-map}
 use Rattle.std.specs.Prelude.{IfSome}
 use Rattle.rk_model.specs.declared.scenario.Scenario.{Scenario}
-use Rattle.rk_model.specs.State.{Plain}
+use Rattle.rk_model.specs.declared.state.Thread.{Thread}
+use Rattle.rk_model.specs.Directives.Objects.{has_begun}
+use Rattle.rk_model.specs.Names.{no_objects}
+use Rattle.rk_model.specs.State.{Plain, no_thread}
 use Rattle.rk_model.specs.Scheduling.Settling.{settle}
 use Rattle.rk_parts.specs.declared.parts.ClusterPart.{ClusterPart}
 use Rattle.rk_parts.specs.declared.parts.AllParts.{AllParts}
 use Rattle.rk_parts.specs.declared.processors.Calling.{Calling}
-use Rattle.rk_parts.specs.Holdings.{AreHeld, holdings}
+use Rattle.rk_parts.specs.Contributing.{flat, AreHomes, Lives}
+use Rattle.rk_parts.specs.Contributions.{bears, bore}
+use Rattle.rk_parts.specs.Holdings.{AreHeld, holder, holdings, noted_holdings}
 use Rattle.rk_groups.specs.GroupObjects.{semaphores_of}
-use Rattle.rk_parts.specs.Joined.{present_of, plain_of}
-use Rattle.rk_parts.specs.Lent.{number_in, AreLaid, layouts, Stored, stored_in, stored, Frame, frame}
-use Rattle.rk_parts.specs.Noted.{settled_part, bare}
+use Rattle.rk_parts.specs.Joined.{held, no_scenario, present_of, plain_of, thread_lent}
+use Rattle.rk_parts.specs.Lent.{found_in, number_in, accounts, AreLaid, layouts, Stored, stored_in, stored, Frame, frame}
+use Rattle.rk_parts.specs.Noted.{settled_part, bare, AreLent, AreNoted}
 use Rattle.rk_parts.specs.Whole.{AreWhole, ticks_of}
 use Rattle.rk_groups.specs.Groups.{group_frames}
 use Rattle.rk_model.specs.Scheduling.Running.{caller}
@@ -20,16 +26,29 @@ use Rattle.rk_model.specs.Scheduling.Seats.{cpu_count}
 use Rattle.rk_model.specs.Text.Scenarios.{cpus_in}
 use Rattle.rk_parts.specs.Hosted.{AreHosted, ShowRunning}
 use Rattle.rk_parts.specs.Seats.{seat_in}
+use Rattle.rk_parts.proofs.AccountLemmas.{home_prio_is, homes_noted, joined_flat, layouts_flat, lent_flat, lent_noted, lives_noted, stored_flat, prio_is}
+use Rattle.rk_parts.proofs.ContributionLemmas.{flat_holdings}
+use Rattle.rk_parts.proofs.HeldLemmas.{found_lives, held_found, held_nowhere}
+use Rattle.rk_parts.proofs.HoldingLemmas.{held_kept}
+use Rattle.rk_parts.proofs.LayoutLemmas.{lie}
 use Rattle.rk_parts.proofs.LentSeatLemmas.{cpu_count_joined, seats_end}
+use Rattle.rk_parts.proofs.LentTimerLemmas.{number_found}
 use Rattle.rk_parts.proofs.PutLemmas.{length_clusters}
-use Rattle.rk_parts.proofs.SettledPartLemmas.{same_stored}
+use Rattle.rk_parts.proofs.SettledPartLemmas.{same_stored, thread_any}
 use Rattle.rk_parts.proofs.WholeLemmas.{Keeps, lent_whole, ticks_framed, semaphores_framed, barriers_framed, partitions_framed, periods_framed, whole_settled, plain_settled, all_noted_settled}
-use Rattle.rk_directives.specs.Does.{Untouched, untouched}
+use Rattle.rk_directives.specs.Does.{HavePriorities, Untouched, untouched, HaveEachPriority, lent_both}
+use Rattle.rk_directives.proofs.DirectiveLemmas.LentLemmas.{home_known}
 use Rattle.rk_directives.proofs.KeptHoldingLemmas.{same_owners, still_held}
 use Rattle.rk_kernel.specs.Ready.{IsSettled, IsReady}
 use Rattle.rk_directives.specs.Sound.{IsSound, CanSettle}
 use Rattle.rk_kernel.proofs.ReadyQueueLemmas.{sound_lines}
 use Rattle.rk_kernel.proofs.SoundSettlingLemmas.{sound_settled}
+use Rattle.std.proofs.lemmas.Bool.Decides.{nat_tests}
+use Rattle.rk_parts.specs.Lending.{prio_lent}
+use Rattle.rk_groups.proofs.FoundLemmas.{found_nowhere}
+use Rattle.rk_model.specs.Scheduling.Chains.{lends_to, reaches}
+use Rattle.rk_model.specs.Scheduling.Priorities.{contribution, is_behind, least_of, own, prio}
+use Rattle.rk_kernel.proofs.BearingLemmas.{least_none, prio_least}
 
 -- what is ready for a step has settled
 pub as_settled : (all : AllParts) → IsReady all → IsSettled all
@@ -93,20 +112,107 @@ whole_kept old all whole present kept held semaphores rest =
       };
     }
 
--- All parts after a change of the state that can settle: they are laid as parts of a state, each semaphore is held by its owner, and what they store and what no directive touches is as before.
+-- All parts after a change of the state that can settle: they are laid as parts of a state, each semaphore is held by its owner, and what they store, their accounts of contributions and what no directive touches is as before.
 pub record IsChanged (before mid : AllParts) (next : Plain) : Type 0 where
   pub settles : CanSettle (plain_of before) next
   pub state : plain_of mid ≡ next
   pub laid : AreLaid before.scenario.clusters (layouts mid.clusters)
   pub kept : stored mid.clusters ≡ stored before.clusters
+  pub accounts : accounts mid.clusters ≡ accounts before.clusters
   pub held : AreHeld (holdings mid.clusters) (semaphores_of mid.groups)
   pub rest : untouched mid ≡ untouched before
 
-keeps : (before mid : AllParts) (next : Plain) → IsChanged before mid next → Keeps before mid
-keeps before mid next is = record {
-  laid = is.laid;
-  kept = is.kept;
-  held = is.held;
+-- ---- contributions to priorities
+
+-- the part of a thread's home is among them
+home_lent : (all : AllParts) (t : ℕ) → AreWhole all → length all.scenario.clusters ≤ 4 → number_in all.clusters (thread_lent all.clusters t).home ≡ Some (thread_lent all.clusters t).home
+home_lent all t whole few = number_found counts all.clusters home home (lie counts all.clusters whole.laid) (omega (arith, less, whole.four)) (whole.numbers home less) where
+  counts : List ℕ
+  counts = all.scenario.clusters
+
+  home : ℕ
+  home = (thread_lent all.clusters t).home
+
+  any : thread_lent all.clusters t ≡ held all.clusters t
+  any = thread_any counts all.clusters t (lie counts all.clusters whole.laid)
+
+  nobody : (o : Option ℕ) → found_in all.clusters t ≡ o → has_begun (held all.clusters t).life ≡ false → held all.clusters t ≡ no_thread
+  nobody None e dead = held_nowhere all.clusters t e
+  nobody (Some at) e dead = absurd (false≢true (sym dead ∙ ap (λ (x : Thread). has_begun x.life) (held_found all.clusters at t e) ∙ found_lives all.clusters at t e))
+
+  below : (b : Bool) → has_begun (thread_lent all.clusters t).life ≡ b → home < 4
+  below true alive = let known = home_known counts all.clusters t whole.laid alive in omega (arith, known, few)
+  below false dead =
+      let none = any ∙ nobody (found_in all.clusters t) refl (ap (λ (x : Thread). has_begun x.life) (sym any) ∙ dead) in
+      let zero_home : home ≡ 0 = ap (λ (x : Thread). x.home) none in
+      omega (arith, zero_home)
+
+  less : home < 4
+  less = below (has_begun (thread_lent all.clusters t).life) refl
+
+-- the priorities that the parts have are those of the state that they stand for, at home
+pub have_priorities : (all : AllParts) → AreWhole all → AreNoted (length all.scenario.clusters) all.clusters → length all.scenario.clusters ≤ 4 → HavePriorities all.clusters all.groups
+have_priorities all whole noted few t one = home_prio_is no_scenario no_objects all.groups all.clusters (thread_lent all.clusters t).home t whole.held noted.shares (home_lent all t whole few) one
+
+-- where the part of a cluster isn't lent, the parts have no priority there,
+prio_nowhere : (parts : List ClusterPart) (t c : ℕ) → number_in parts c ≡ None → prio_lent parts t c ≡ None
+prio_nowhere [] t c none = refl
+prio_nowhere (p ∷ ps) t c none =
+    let e = found_nowhere (p.lined.number == c) (number_in ps c) none in
+    rw e.here_not (prio_nowhere ps t c e.there_not)
+
+-- and there is none, since no thread's home it is
+nothing_lent : (all : AllParts) (t c u : ℕ) → AreWhole all → length all.scenario.clusters ≤ 4 → number_in all.clusters c ≡ None → contribution (lent_both all.clusters all.groups) t c u ≡ None
+unfolding contribution is_behind
+nothing_lent all t c u whole few none =
+    ap (λ b. cond (has_begun (thread_lent all.clusters u).life && (b && reaches (lends_to k) (length k.threads) u t)) (Some (own k u)) None) away ∙ by (has_begun (thread_lent all.clusters u).life) where
+      k : Plain
+      k = lent_both all.clusters all.groups
+
+      away : ((thread_lent all.clusters u).home == c) ≡ false
+      away = let other : (thread_lent all.clusters u).home ≢ c = λ same. (let no : ⊥ = cc (home_lent all u whole few, ap (number_in all.clusters) same, none) in no) in grind (arith, nat_tests, other)
+
+      by : (b : Bool) → cond (b && (false && reaches (lends_to k) (length k.threads) u t)) (Some (own k u)) None ≡ None
+      by true = refl
+      by false = refl
+
+-- and so they are in each cluster
+pub have_each_priority : (all : AllParts) → AreWhole all → AreNoted (length all.scenario.clusters) all.clusters → length all.scenario.clusters ≤ 4 → HaveEachPriority all.clusters all.groups
+have_each_priority all whole noted few t c one = by (number_in all.clusters c) refl where
+  by : (o : Option ℕ) → number_in all.clusters c ≡ o → prio_lent all.clusters t c ≡ prio (lent_both all.clusters all.groups) t c
+  by None e = prio_nowhere all.clusters t c e ∙ sym (prio_least (lent_both all.clusters all.groups) t c ∙ least_none (contribution (lent_both all.clusters all.groups) t c) 1 (length (lent_both all.clusters all.groups).threads) (λ u. nothing_lent all t c u whole few e))
+  by (Some at) e = prio_is no_scenario no_objects all.groups all.clusters at t c whole.held noted.shares e one
+
+-- What contributions are made anew from, after a change that keeps the accounts of them.
+pub record CanContribute (mid : List ClusterPart) : Type 0 where
+  pub lent : AreLent (bore mid) (holder (noted_holdings mid)) mid
+  pub lives : Lives mid
+  pub homes : AreHomes mid
+
+pub can_contribute : (before : AllParts) (mid : List ClusterPart) → AreWhole before → AreNoted (length before.scenario.clusters) before.clusters → AreLaid before.scenario.clusters (layouts mid) → stored mid ≡ stored before.clusters → accounts mid ≡ accounts before.clusters → CanContribute mid
+can_contribute before mid whole noted laid kept same =
+    let counts = before.scenario.clusters in
+    let lies = lie counts before.clusters whole.laid in
+    record {
+      lent = lent_noted (length counts) before.clusters mid noted kept same;
+      lives = lives_noted (length counts) counts before.clusters mid lies noted kept same;
+      homes = homes_noted (length counts) counts before.clusters mid lies (lie counts mid laid) noted kept same;
+    }
+
+-- the same of parts that keep the frame of such parts
+pub framed_contributes : (before : AllParts) (from mid : List ClusterPart) → IsReady before → AreLaid before.scenario.clusters (layouts from) → stored from ≡ stored before.clusters → accounts from ≡ accounts before.clusters → frame mid ≡ frame from → CanContribute mid
+framed_contributes before from mid ready laid kept same framed =
+    can_contribute before mid ready.whole ready.noted
+    (subst (AreLaid before.scenario.clusters) (sym (ap (λ (f : Frame). f.layouts) framed)) laid)
+    (ap (λ (f : Frame). f.stored) framed ∙ kept)
+    (ap (λ (f : Frame). f.accounts) framed ∙ same)
+
+keeps : (before mid : AllParts) (made : List ClusterPart) (next : Plain) → IsChanged before mid next → map flat made ≡ map flat mid.clusters → AreLent (bears mid.clusters) (holder (holdings mid.clusters)) made → Keeps before (record mid { clusters = made })
+keeps before mid made next is flats lent = record {
+  shares = lent_flat mid.clusters made flats lent;
+  laid = subst (AreLaid before.scenario.clusters) (sym (layouts_flat mid.clusters made flats)) is.laid;
+  kept = stored_flat mid.clusters made flats ∙ is.kept;
+  held = held_kept (holdings mid.clusters) (holdings made) (semaphores_of mid.groups) (semaphores_of mid.groups) (flat_holdings mid.clusters made flats) (λ i. refl) is.held;
   scenario = ap (λ (u : Untouched). u.scenario) is.rest;
   groups = ap (λ (u : Untouched). u.groups) is.rest;
   table = ap (λ (u : Untouched). u.time) is.rest;
@@ -117,23 +223,24 @@ pub record AreSettled (before after : AllParts) (next : Plain) (last : List ℕ)
   pub state : plain_of after ≡ settle (plain_of before) next last
   pub ready : IsReady after
 
--- Settled parts stand for the settled state, and are ready for the next step where it is noted whom processors help.
-pub settled : (before mid : AllParts) (new : List ClusterPart) (next : Plain) (last : List ℕ) → IsSettled before → IsChanged before mid next → map bare new ≡ map (settled_part last) mid.clusters → HostsAll new → AreSettled before (record mid { clusters = new }) next last
-settled before mid new next last ready is done hosts =
+-- Parts in which contributions were made anew, and that have settled then, stand for the settled state, and are ready for the next step where it is noted whom processors help.
+pub settled : (before mid : AllParts) (made new : List ClusterPart) (next : Plain) (last : List ℕ) → IsSettled before → IsChanged before mid next → map flat made ≡ map flat mid.clusters → AreLent (bears mid.clusters) (holder (holdings mid.clusters)) made → map bare new ≡ map (settled_part last) made → HostsAll new → AreSettled before (record mid { clusters = new }) next last
+settled before mid made new next last ready is flats lent done hosts =
     let k = plain_of before in
     let few = few_settled before ready in
-    let keep = keeps before mid next is in
+    let lends : AllParts = record mid { clusters = made } in
+    let keep = keeps before mid made next is flats lent in
     let lines = sound_lines k ready.sound in
     let state : plain_of (record mid { clusters = new }) ≡ settle k next last =
-    plain_settled before mid new last ready.whole ready.noted lines few keep done ∙ ap (λ (n : Plain). settle k n last) is.state in
-    let whole = whole_settled before mid new last ready.whole keep done in
+    plain_settled before lends new last ready.whole ready.noted lines few keep done ∙ ap (λ (n : Plain). settle k n last) (joined_flat mid.scenario mid.table.names mid.groups mid.clusters made flats ∙ is.state) in
+    let whole = whole_settled before lends new last ready.whole keep done in
     let sound : IsSound (plain_of (record mid { clusters = new })) = subst IsSound (sym state) (sound_settled k next last ready.sound is.settles) in
     record {
       state = state;
       ready = record {
         whole = whole;
         sound = sound;
-        noted = all_noted_settled before mid new last ready.whole ready.noted lines few keep done;
+        noted = all_noted_settled before lends new last ready.whole ready.noted lines few keep done;
         hosted = hosts (λ p high. seats_end mid.scenario.clusters new p whole.laid (omega (arith, high, sound.few_cpus, cpu_count_joined mid.scenario mid.table.names mid.groups new whole.laid)));
       };
     }

@@ -12,7 +12,7 @@ use Rattle.rk_model.specs.Scheduling.Priorities.{is_eligible, standing, standing
 use Rattle.rk_model.specs.Scheduling.Settling.{is_cluster, belongs, is_stay, is_to_end, is_to_front, shift_of, shifts, making, shifted}
 use Rattle.rk_model.proofs.CountLemmas.{times-append, times-filter, has_times, has_none, once_in_range}
 use Rattle.rk_model.proofs.BooleanLemmas.{and_false}
-use Rattle.rk_parts.proofs.StandingLemmas.{standings_say}
+use Rattle.rk_parts.proofs.StandingLemmas.{belongs_say}
 use Rattle.rk_parts.specs.Noted.{LinesHold}
 use Rattle.rk_directives.specs.Sound.{stands, own, IsSound, IsClusterSound, AllSound}
 use Rattle.rk_kernel.proofs.CallerLemmas.{stands_eligible}
@@ -33,7 +33,7 @@ belongs_stands k c t = by (is_eligible k t) where
 
 -- and so the standings of a state say
 pub noted_stands : (k : Plain) (c t : ℕ) → belongs c (nth_standing (standings k) t) ≡ stands k c t
-noted_stands k c t = ap (belongs c) (standings_say k t) ∙ belongs_stands k c t
+noted_stands k c t = belongs_say k c t ∙ belongs_stands k c t
 
 -- an eligible thread is one of the threads
 eligible_within : (k : Plain) (t : ℕ) → is_eligible k t ≡ true → (0 < t) × (t ≤ length k.threads)
@@ -79,7 +79,7 @@ sound_at k c sound within =
 
 -- The ready queues of a sound state have exactly the threads that belong there.
 pub sound_lines : (k : Plain) → IsSound k → LinesHold k
-sound_lines k sound c t within = line_belongs k c (cluster_at k c).line (sound_at k c sound within).line t ∙ ap (belongs c) (standings_say k t)
+sound_lines k sound c t within = line_belongs k c (cluster_at k c).line (sound_at k c sound within).line t ∙ belongs_say k c t
 
 -- ---- the line after the shifts
 

@@ -19,28 +19,16 @@ use Rattle.rk_directives.specs.Sound.{IsSound}
 use Rattle.rk_directives.specs.Refusals.{is_refused}
 use Rattle.rk_kernel.specs.SchedulingLaws.{is_refusal, refused_thread, RefusalsChangeTheCallerAlone}
 use Rattle.rk_model.proofs.IndexLemmas.{nth-with_kept, length-with_nth}
+use Rattle.rk_kernel.proofs.BearingLemmas.{put_alike, standings_alike}
 use Rattle.rk_kernel.proofs.CallerLemmas.{acting_of}
 use Rattle.rk_directives.proofs.DirectiveLemmas.ActionLemmas.{op_fair}
 use Rattle.rk_directives.proofs.OutcomeLemmas.{op_of, IsFair}
-use Rattle.rk_parts.specs.Threads.{own_standing}
-use Rattle.rk_parts.proofs.StandingLemmas.{standing_own}
 use Rattle.rk_kernel.specs.Manned.{AreManned}
 use Rattle.rk_kernel.proofs.RunnerLaws.{manned_after}
 use Rattle.rk_kernel.proofs.StillSettlingLemmas.{settled_still}
 
 no_refusal : {X : Type 0} → false ≡ true → X
 no_refusal h = absurd (false≢true h)
-
-standings_alike : (k n : Plain) (t m : ℕ) → ((u : ℕ) → standing n u ≡ standing k u) → standings_from n t m ≡ standings_from k t m
-standings_alike k n t zero same = refl
-standings_alike k n t (suc m) same = rw (same t, standings_alike k n (t + 1) m same) refl
-
--- where a thread is put that stands as the one before it, all stand as before
-standings-put_thread : (k : Plain) (t : ℕ) (thread : Thread) → own_standing thread ≡ own_standing (thread_at k t) → standings (put_thread k t thread) ≡ standings k
-standings-put_thread k t thread same =
-    let n = put_thread k t thread in
-    standings_alike k n 1 (length n.threads) (λ u. standing_own n u ∙ nth-with_kept own_standing no_thread thread k.threads t u same ∙ sym (standing_own k u))
-    ∙ ap (standings_from k 1) (length-with_nth thread k.threads t)
 
 -- what has the status of a refusal has the form of one, as far as it is fair
 refuses : (k : Plain) (t : ℕ) (o : Outcome) → IsFair k t o → is_refused (op_of k t) (status_code (status_of (answer_of o))) ≡ true → (after_outcome k t o ≡ go_on k t 0) × (last_of (answer_of o) ≡ None)
@@ -53,7 +41,7 @@ refuses k t (Gone status next) fair h = no_refusal (sym fair.does.0 ∙ h)
 settled_alone : (k : Plain) (t : ℕ) (o : Outcome) → IsSound k → AreManned k → after_outcome k t o ≡ go_on k t 0 → last_of (answer_of o) ≡ None → settle k (after_outcome k t o) (option_to_list (last_of (answer_of o))) ≡ go_on k t 0
 settled_alone k t o sound manned next last =
     ap (λ (n : Plain). settle k n (option_to_list (last_of (answer_of o)))) next ∙ ap (λ (l : Option ℕ). settle k (go_on k t 0) (option_to_list l)) last
-    ∙ settled_still k (go_on k t 0) sound manned refl (standings-put_thread k t (refused_thread k.scenario (thread_at k t)) refl)
+    ∙ settled_still k (go_on k t 0) sound manned refl (standings_alike k (go_on k t 0) (put_alike k t (refused_thread k.scenario (thread_at k t)) refl))
 
 -- of each act that is a refusal
 abbrev AllRefusals : Plain → Option Act → Type 0

@@ -25,10 +25,12 @@ use Rattle.rk_parts.proofs.SettlingLemmas.{urgency-with_clusters}
 use Rattle.rk_directives.specs.Sound.{stands, own, AllSound, IsClusterSound, IsSound, KeepsLines}
 use Rattle.rk_kernel.specs.Manned.{HasRunners, AllManned, AreManned, RunOnce}
 use Rattle.rk_kernel.specs.SchedulingLaws.{seats, ProcessorsHaveTheRunners, NoneRunsTwice}
+use Rattle.rk_parts.specs.Threads.{bearing}
+use Rattle.rk_kernel.proofs.BearingLemmas.{BearAlike, urgency_alike}
 use Rattle.rk_kernel.proofs.ReadyQueueLemmas.{own_once, line_moved, sound_at}
 use Rattle.rk_model.proofs.HelpingLemmas.{helped_once, not_seated}
 use Rattle.rk_kernel.proofs.RunsLemmas.{RunsOwn, RunsOther, runs_says}
-use Rattle.rk_kernel.proofs.TickLemmas.{passed_steady}
+use Rattle.rk_kernel.proofs.TickLemmas.{passed_steady, length-charge_from}
 use Rattle.rk_kernel.proofs.SeatLemmas.{seats_assigned}
 use Rattle.rk_kernel.proofs.UrgencyLaws.{none_urgent, most_few, times-most_urgent}
 use Rattle.rk_kernel.proofs.SoundSettlingLemmas.{each_settled, settled_each}
@@ -64,9 +66,16 @@ all_manned k next last key c (a ∷ olds) (b ∷ news) size sound manned keeps =
 other_key : (key key' : ℕ → ℕ → ℕ) (c : ℕ) (clusters : List ClusterState) → ((d t : ℕ) → key d t ≡ key' d t) → AllManned key c clusters → AllManned key' c clusters
 other_key key key' c clusters same manned = let e : key ≡ key' = λ i d t. same d t i in subst (λ (f : ℕ → ℕ → ℕ). AllManned f c clusters) e manned
 
+-- what passes with a tick bears on no priority
+passed_alike : (k : Plain) → BearAlike k (pass k)
+passed_alike k = record {
+  threads = length-charge_from k 1 k.threads;
+  semaphores = refl;
+  bears = λ u. passed_steady bearing k u (λ _ _ _ _. refl);
+}
+
 urgency-pass : (k : Plain) (c t : ℕ) → urgency k c t ≡ urgency (pass k) c t
-unfolding urgency prio
-urgency-pass k c t = sym (passed_steady (λ (x : Thread). or_least_urgent (cond (x.home == c) (Some x.base) None)) k t (λ _ _ _ _. refl))
+urgency-pass k c t = sym (urgency_alike k (pass k) c t (passed_alike k))
 
 kept_manned : IsKept AreManned
 kept_manned = record {

@@ -15,14 +15,19 @@ use Rattle.rk_model.specs.Names.{no_objects}
 use Rattle.rk_parts.specs.declared.parts.ClusterPart.{ClusterPart}
 use Rattle.rk_parts.specs.declared.parts.AllParts.{AllParts}
 use Rattle.rk_groups.specs.declared.group.GroupPart.{GroupPart}
-use Rattle.rk_parts.specs.Threads.{own_standing}
+use Rattle.rk_agg.specs.Shares.{found, no_shares, nones}
+use Rattle.rk_agg.proofs.ShareLemmas.{found_nones}
+use Rattle.rk_parts.specs.declared.bearing.Bearing.{Bearing}
+use Rattle.rk_parts.specs.declared.holdings.Holding.{Holding}
+use Rattle.rk_parts.specs.Contributions.{bears, contributed}
+use Rattle.rk_parts.specs.Threads.{bearing, bearing_at, bearings_by, no_bearing, standing_at, standings_by, stands_by}
 use Rattle.rk_places.specs.Stores.{none_live, group_of, stored_at}
 use Rattle.rk_signal.specs.Barriers.{no_stored}
 use Rattle.rk_groups.specs.GroupObjects.{listed, semaphore_group, semaphore_held, semaphores_of, barrier_of, barrier_group, barrier_held, barriers_of, partition_group, partition_held, partitions_of, period_group, period_held, periods_of}
 use Rattle.rk_parts.specs.Joined.{cluster_of, placed_in, lives_in, held, numbered, present_of, threads_of, clusters_of, clusters_by, plain_of}
 use Rattle.rk_parts.specs.Lent.{AreLaid, layouts, stored}
-use Rattle.rk_parts.specs.Noted.{no_part, part_at, standings_in, key_of, IsKeyed, AreNoted, bare}
-use Rattle.rk_parts.specs.Holdings.{AreHeld, first_one, holder, holdings, no_holdings}
+use Rattle.rk_parts.specs.Noted.{no_part, part_at, bearings_in, standings_in, key_of, IsKeyed, AreNoted, bare}
+use Rattle.rk_parts.specs.Holdings.{AreHeld, first_one, holder, holdings, no_holdings, holding_of}
 use Rattle.rk_parts.specs.Whole.{ticks_of, ticks_in, AreWhole}
 use Rattle.rk_groups.proofs.ListedLemmas.{length-listed, get_or-listed}
 use Rattle.rk_parts.proofs.MappedPartLemmas.{mapped_kept}
@@ -30,7 +35,7 @@ use Rattle.rk_parts.proofs.HeldLemmas.{held_nowhere, lives_nowhere, no_part_live
 use Rattle.rk_parts.proofs.LayoutLemmas.{Lie, laid}
 use Rattle.rk_parts.proofs.LentTimerLemmas.{numbered_found}
 use Rattle.rk_parts.proofs.MarkLemmas.{nth_replicate}
-use Rattle.rk_parts.proofs.SettledPartLemmas.{bare_at, present_bare}
+use Rattle.rk_parts.proofs.SettledPartLemmas.{bare_at, present_bare, thread_any}
 use Rattle.rk_parts.proofs.WholeLemmas.{lent_all, ticks_bare}
 use Rattle.rk_kernel.specs.Made.{vacant_part, vacant_in, vacant_parts, vacant_groups}
 
@@ -140,14 +145,53 @@ clusters_vacant counts parts vacant few =
     get_or-listed (numbered counts parts) 0 (length counts) i (free_cluster 0) less ∙ ap (numbered counts parts) e
     ∙ cluster_vacant counts parts i vacant few less ∙ sym (get_or-map free_cluster counts i 0 (free_cluster 0) less))
 
--- It is noted that no thread stands.
-standings_none : (n : ℕ) → replicate n no_standing ≡ map own_standing (replicate n no_thread)
-standings_none zero = refl
-standings_none (suc n) = ap (λ (xs : List Standing). no_standing ∷ xs) (standings_none n)
+-- what is the same for each of some indices is listed as so many times the same
+listed_no : {X : Type 0} (none : X) (f : ℕ → X) (a n : ℕ) → ((i : ℕ) → f i ≡ none) → listed f a n ≡ replicate n none
+listed_no none f a zero is = refl
+listed_no none f a (suc n) is = ap (λ x. x ∷ listed f (a + 1) n) (is a) ∙ ap (λ xs. none ∷ xs) (listed_no none f (a + 1) n is)
+
+-- It is noted that no thread stands, bears anything or holds a semaphore, and none contributes to a priority.
+standings_none : (n : ℕ) → replicate n no_standing ≡ standings_by no_shares (replicate n no_thread)
+unfolding standings_by
+standings_none n =
+    sym (listed_no no_standing (standing_at no_shares (replicate n no_thread)) 1 n (λ t. ap (λ (x : Thread). stands_by no_shares t (bearing x)) (nth_replicate no_thread n t)))
+    ∙ ap (listed (standing_at no_shares (replicate n no_thread)) 1) (sym (length-replicate n no_thread))
+
+none_stand : no_part.threads.stood ≡ standings_in no_part
+unfolding standings_by
+none_stand = refl
+
+bearings_none : (n : ℕ) → replicate n no_bearing ≡ bearings_by (replicate n no_thread)
+unfolding bearings_by
+bearings_none n =
+    sym (listed_no no_bearing (bearing_at (replicate n no_thread)) 1 n (λ t. ap bearing (nth_replicate no_thread n t)))
+    ∙ ap (listed (bearing_at (replicate n no_thread)) 1) (sym (length-replicate n no_thread))
+
+found_empty : (t c u : ℕ) → found [] t c u ≡ None
+unfolding nones
+found_empty t c u = found_nones 0 t c u
+
+no_shares_in : (counts : List ℕ) (parts : List ClusterPart) (at t c u : ℕ) → AreVacant counts parts → found (part_at parts at).threads.shares t c u ≡ None
+no_shares_in counts parts at t c u vacant = by_part counts parts (λ (p : ClusterPart). found p.threads.shares t c u ≡ None) at vacant (found_nones 16384 t c u) (found_empty t c u)
+
+contributed_dead : (bear : ℕ → Bearing) (hold : ℕ → Option Holding) (t c u : ℕ) → has_begun (bear u).life ≡ false → contributed bear hold t c u ≡ None
+unfolding contributed
+contributed_dead bear hold t c u dead = rw dead refl
+
+none_bears : (counts : List ℕ) (parts : List ClusterPart) (u : ℕ) → AreVacant counts parts → has_begun (bears parts u).life ≡ false
+none_bears counts parts u vacant = ap (λ (x : Thread). has_begun x.life) (thread_any counts parts u (lie_vacant counts parts vacant) ∙ none_held counts parts u vacant)
 
 noted_vacant : (count : ℕ) (counts : List ℕ) (parts : List ClusterPart) → AreVacant counts parts → AreNoted count parts
 noted_vacant count counts parts vacant = record {
-  stood = λ at. by_part counts parts (λ (p : ClusterPart). p.threads.stood ≡ standings_in p) at vacant (standings_none 64) refl;
+  borne = λ at. by_part counts parts (λ (p : ClusterPart). p.threads.borne ≡ bearings_in p) at vacant (bearings_none 64) (bearings_none 0);
+  held = λ at. by_part counts parts (λ (p : ClusterPart). p.holdings.noted ≡ p.holdings.owners) at vacant refl refl;
+  shares = record {
+    own = λ at t u less one other.
+        no_shares_in counts parts at t (part_at parts at).lined.number u vacant
+        ∙ sym (contributed_dead (bears parts) (holder (holdings parts)) t (part_at parts at).lined.number u (none_bears counts parts u vacant));
+    elsewhere = λ at t d u less other. no_shares_in counts parts at t d u vacant;
+  };
+  stood = λ at. by_part counts parts (λ (p : ClusterPart). p.threads.stood ≡ standings_in p) at vacant (standings_none 64) none_stand;
   keyed = λ at known. by_part counts parts (λ (p : ClusterPart). IsKeyed (key_of p.threads.stood) p.lined.line) at vacant tt tt;
 }
 
@@ -157,10 +201,6 @@ noted_vacant count counts parts vacant = record {
 or_none : {X : Type 0} (none : X) (b : Bool) {x rest : X} → x ≡ none → rest ≡ none → cond b x rest ≡ none
 or_none none true here more = here
 or_none none false here more = more
-
-listed_no : {X : Type 0} (none : X) (f : ℕ → X) (a n : ℕ) → ((i : ℕ) → f i ≡ none) → listed f a n ≡ replicate n none
-listed_no none f a zero is = refl
-listed_no none f a (suc n) is = ap (λ x. x ∷ listed f (a + 1) n) (is a) ∙ ap (λ xs. none ∷ xs) (listed_no none f (a + 1) n is)
 
 -- no semaphore is held by vacant groups,
 no_semaphore_held : (i : ℕ) → semaphore_held vacant_groups i ≡ no_semaphore
@@ -204,7 +244,7 @@ periods_vacant groups made = ap (λ (gs : List GroupPart). listed (period_held g
 
 -- ---- holdings
 
-none_first : (o rest : Option ℕ) → o ≡ None → rest ≡ None → first_one o rest ≡ None
+none_first : (o rest : Option Holding) → o ≡ None → rest ≡ None → first_one o rest ≡ None
 none_first o rest here more = ap (λ x. first_one x rest) here ∙ more
 
 -- no thread holds a semaphore, and none owns one
@@ -212,12 +252,12 @@ held_vacant : (counts : List ℕ) (parts : List ClusterPart) (groups : List Grou
 held_vacant counts parts groups clusters made = λ i.
     ap (λ hs. holder hs i) holds
     ∙ none_first _ _ (none i) (none_first _ _ (none i) (none_first _ _ (none i) (none_first _ _ (none i) refl)))
-    ∙ sym (ap (λ (xs : List SemaphoreState). (nth no_semaphore xs i).owner) (semaphores_vacant groups made) ∙ ap (λ (x : SemaphoreState). x.owner) (nth_replicate no_semaphore 64 i))
+    ∙ sym (ap (λ (xs : List SemaphoreState). holding_of (nth no_semaphore xs i)) (semaphores_vacant groups made) ∙ ap (λ (x : SemaphoreState). holding_of x) (nth_replicate no_semaphore 64 i))
   where
-    holds : holdings parts ≡ no_holdings ∷ no_holdings ∷ no_holdings ∷ no_holdings ∷ []
-    holds = sym (mapped_kept (λ (p : ClusterPart). p.holdings) bare (λ p. refl) parts) ∙ ap (λ (ps : List ClusterPart). holdings ps) clusters
+    holds : holdings parts ≡ no_holdings.owners ∷ no_holdings.owners ∷ no_holdings.owners ∷ no_holdings.owners ∷ []
+    holds = sym (mapped_kept (λ (p : ClusterPart). p.holdings.owners) bare (λ p. refl) parts) ∙ ap (λ (ps : List ClusterPart). holdings ps) clusters
 
-    none : (i : ℕ) → nth None no_holdings i ≡ None
+    none : (i : ℕ) → nth None no_holdings.owners i ≡ None
     none i = nth_replicate None 64 i
 
 -- ---- the parts that were made

@@ -16,9 +16,9 @@ use Rattle.rk_model.specs.Directives.Waits.{Object, OfSemaphore, object_of_wait,
 use Rattle.rk_model.specs.Scheduling.Chains.{chain, end_of, ends_by, waits_on}
 use Rattle.rk_model.specs.Scheduling.Helping.{could_run}
 use Rattle.rk_model.specs.Scheduling.Timers.{times_armed}
-use Rattle.rk_model.specs.declared.state.Armer.TheVariants.{Thread as OfThread}
+use Rattle.rk_model.specs.declared.state.Armer.TheVariants.{Thread as OfThread, Period as OfPeriod}
 use Rattle.rk_model.specs.Steps.{Act, act}
-use Rattle.rk_model.specs.Scheduling.Priorities.{spins, urgency}
+use Rattle.rk_model.specs.Scheduling.Priorities.{spins, urgency, contribution, prio}
 use Rattle.rk_model.specs.Scheduling.ReadyQueues.{rank, runners}
 use Rattle.rk_model.specs.Scheduling.Running.{running, caller}
 use Rattle.rk_model.specs.Scheduling.Seats.{cpu_at}
@@ -29,6 +29,9 @@ use Rattle.rk_kernel.specs.declared.steps.CoreStep.TheVariants.{Did, Nothing}
 use Rattle.rk_model.specs.Statistics.{is_call, statistics}
 use Rattle.rk_directives.specs.Refusals.{is_refused}
 use Rattle.rk_directives.specs.Sound.{stands, has_action, may_time_out, is_asleep}
+use Rattle.rk_model.specs.Directives.Periods.{end_of as next_end, is_awaited}
+use Rattle.rk_directives.specs.SoundPeriods.{awaits, dues_of, IsAwaitedBy}
+use Rattle.std.specs.Option.{option_to_list}
 
 -- it holds of the state after each legal history of each scenario
 abbrev pub AfterEach : (Plain → Type 0) → Type 0
@@ -168,6 +171,44 @@ pub record HasAnEnd (k : Plain) (t : ℕ) : Type 0 where
 -- Every chain of threads, each of which waits for a semaphore that the next one owns, ends, after each legal history: it has at most 64 threads, and comes back to none.
 abbrev pub EveryChainOfWaitsEnds : Type 0
 EveryChainOfWaitsEnds = AfterEach (λ k. (t : ℕ) → HasAnEnd k t)
+
+-- An index where no task lives brings nothing: its thread contributes to no priority, and has none in any cluster.
+pub record BringsNothing (k : Plain) (t : ℕ) : Type 0 where
+  pub contributes : (u c : ℕ) → contribution k u c t ≡ None
+  pub prio : (c : ℕ) → prio k t c ≡ None
+
+-- It is so of each index where no task lives, after each legal history. Dormant and ended tasks live.
+abbrev pub DeadIndicesBringNothing : Type 0
+DeadIndicesBringNothing = AfterEach (λ k. (t : ℕ) → has_begun (thread_at k t).life ≡ false → BringsNothing k t)
+
+-- A thread has a priority in its home, which is at most its base priority.
+pub record HasHomePriority (k : Plain) (t : ℕ) : Type 0 where
+  pub level : ℕ
+  pub there : prio k t (thread_at k t).home ≡ Some level
+  pub most : level ≤ (thread_at k t).base
+
+-- It is so of each thread that lives, after each legal history.
+abbrev pub LiveThreadsHavePriorities : Type 0
+LiveThreadsHavePriorities = AfterEach (λ k. (t : ℕ) → has_begun (thread_at k t).life ≡ true → HasHomePriority k t)
+
+-- A period agrees with the thread that created it:
+pub record HasItsCreator (k : Plain) (i : ℕ) : Type 0 where
+  -- this lives;
+  pub lives : has_begun (thread_at k (period_at k i).creator).life ≡ true
+  -- it waits for the period exactly where the period is awaited;
+  pub waits : is_awaited (period_at k i).phase ≡ true → awaits (thread_at k (period_at k i).creator).wait ≡ Some i
+  pub awaited : awaits (thread_at k (period_at k i).creator).wait ≡ Some i → is_awaited (period_at k i).phase ≡ true
+  -- and the period's one timer is that of its next end, in its creator's home; an inactive one has none
+  pub timed : (c : ℕ) → dues_of (OfPeriod i) (cluster_at k c).timers ≡ (if (thread_at k (period_at k i).creator).home == c then option_to_list (next_end (period_at k i).phase) else [])
+
+-- Each live period agrees with its creator, and no other thread waits for it.
+pub record AreOfTheirCreators (k : Plain) : Type 0 where
+  pub creators : (i : ℕ) → (period_at k i).live ≡ true → HasItsCreator k i
+  pub own : (t i : ℕ) → awaits (thread_at k t).wait ≡ Some i → IsAwaitedBy (period_at k i) t
+
+-- It is so after each legal history.
+abbrev pub PeriodsAndCreatorsAgree : Type 0
+PeriodsAndCreatorsAgree = AfterEach AreOfTheirCreators
 
 -- The history in which always the lowest-numbered processor that has a directive acts ends with End, or has as many entries as it may have.
 abbrev pub LowestGoesOn : Type 0

@@ -25,6 +25,7 @@ use rk_directives::waits::end_wait;
 use rk_groups::group::GroupPart;
 use rk_model::{Armer, Reply, Scenario, Status, Thread, View, Wait};
 use rk_parts::arrival::arrive;
+use rk_parts::contribute::contribute;
 use rk_parts::helping::host_parts;
 use rk_parts::lent::{renew, thread_of};
 use rk_parts::parts::{AllParts, ClusterPart};
@@ -128,6 +129,7 @@ fn fire_first(all: &mut AllParts, cluster: u8) -> bool
         None => false,
         Some(timer) => {
             rung(&mut all.clusters, &mut all.groups, timer.who);
+            contribute(&mut all.clusters);
             settle_parts(&mut all.clusters, &None);
             host_parts(&mut all.clusters);
             true

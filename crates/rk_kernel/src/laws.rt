@@ -3,7 +3,7 @@
 //! Each speaks of the state after any legal history of a scenario, but for the last ones: they speak of
 //! the planned history, of histories of one processor, and of every state.
 
-ghost use Rattle.rk_kernel.specs.SchedulingLaws.{LinesHoldTheirOwn, ProcessorsHaveTheRunners, RunnersAreTheMostUrgent, NoneRunsTwice, PreemptedThreadsAreHelped, NamesAndObjectsAgree, NothingIsLeftOfDeletedTasks, NothingIsLeftOfDeletedSemaphores, NothingIsLeftOfDeletedBarriers, NothingIsLeftOfDeletedPartitions, NothingIsLeftOfDeletedPeriods, StatisticsAreThoseOfTheHistory, WaitsAndQueuesAgree, OwnersLiveAndNoneWaitsForItsOwn, EveryChainOfWaitsEnds, NoneActsAtWork, RefusalsChangeTheCallerAlone, LowestGoesOn, HistoriesOfOneProcessorAreEqual, HistoriesOfOneProcessorArePlanned};
+ghost use Rattle.rk_kernel.specs.SchedulingLaws.{LinesHoldTheirOwn, ProcessorsHaveTheRunners, RunnersAreTheMostUrgent, NoneRunsTwice, PreemptedThreadsAreHelped, NamesAndObjectsAgree, NothingIsLeftOfDeletedTasks, NothingIsLeftOfDeletedSemaphores, NothingIsLeftOfDeletedBarriers, NothingIsLeftOfDeletedPartitions, NothingIsLeftOfDeletedPeriods, StatisticsAreThoseOfTheHistory, WaitsAndQueuesAgree, OwnersLiveAndNoneWaitsForItsOwn, EveryChainOfWaitsEnds, NoneActsAtWork, RefusalsChangeTheCallerAlone, LowestGoesOn, DeadIndicesBringNothing, LiveThreadsHavePriorities, PeriodsAndCreatorsAgree, HistoriesOfOneProcessorAreEqual, HistoriesOfOneProcessorArePlanned};
 ghost use Rattle.rk_kernel.specs.Cut.{SuspendNeedsItsClusterAlone};
 
 /// The ready queue of each cluster holds exactly the eligible threads of that home, each once.
@@ -81,6 +81,23 @@ pub fn owners_live_and_none_waits_for_its_own()
 /// most 64 threads, and comes back to none.
 pub fn every_chain_of_waits_ends()
     ensures { EveryChainOfWaitsEnds }
+{}
+
+/// An index where no task lives brings nothing: its thread contributes to no priority, and has none in
+/// any cluster. Dormant and ended tasks live.
+pub fn dead_indices_bring_nothing()
+    ensures { DeadIndicesBringNothing }
+{}
+
+/// A thread that lives has a priority in its home, which is at most its base priority.
+pub fn live_threads_have_priorities()
+    ensures { LiveThreadsHavePriorities }
+{}
+
+/// A live period's creator lives, and waits for the period exactly where that is awaited; no other thread
+/// waits for it; and its one timer is that of its next end, in its creator's home.
+pub fn periods_and_creators_agree()
+    ensures { PeriodsAndCreatorsAgree }
 {}
 
 /// The statistics that a period has are those of its history: of the jobs that ended since it was

@@ -11,7 +11,7 @@ ghost use Rattle.rk_model.specs.Text.Scenarios.{cpus_in};
 ghost use Rattle.rk_groups.specs.declared.group.GroupPart.{GroupPart as GroupView};
 ghost use Rattle.rk_parts.specs.Holdings.{holdings};
 ghost use Rattle.rk_parts.specs.Joined.{joined, plain_of, threads_of};
-ghost use Rattle.rk_parts.specs.Lent.{number_in, layouts, stored, AreLaid};
+ghost use Rattle.rk_parts.specs.Lent.{accounts, number_in, layouts, stored, AreLaid};
 ghost use Rattle.rk_parts.specs.Noted.{bare, AreNoted};
 ghost use Rattle.rk_parts.specs.Whole.{AreWhole};
 ghost use Rattle.rk_kernel.specs.Made.{vacant_group, vacant_part, vacant_parts};
@@ -23,6 +23,7 @@ use rk_model::{Body, Class, Init, Items, Life, NoMemory, Scenario, Thread, Threa
 use rk_mrsp::{Assigned, Chains, Hosting};
 use rk_partition::PartitionStore;
 use rk_parts::arrival::arrive;
+use rk_parts::contribute::contribute;
 use rk_parts::helping::host_anew;
 use rk_parts::holdings::Holdings;
 use rk_parts::lent::make;
@@ -181,6 +182,7 @@ fn start_all(scenario: &Scenario, clusters: &mut [ClusterPart])
     ensures started { (table : TableView) (groups : List GroupView) → joined scenario.now table clusters.new groups ≡ record (joined scenario.now table clusters.old groups) { threads = places MOST_OBJECTS (map (begun scenario.now) scenario.now.inits) } }
     ensures laid { AreLaid scenario.now.clusters (layouts clusters.new) }
     ensures kept { stored clusters.new ≡ stored clusters.old }
+    ensures accounts { accounts clusters.new ≡ accounts clusters.old }
     ensures held { holdings clusters.new ≡ holdings clusters.old }
 {
     for at in 0..scenario.inits.len() {
@@ -210,6 +212,7 @@ pub(crate) fn make_opening(alloc: Global, scenario: &Scenario) -> Result<AllPart
     let mut all = make_vacant(alloc, scenario)?;
     start_all(scenario, &mut all.clusters);
     name_all(&mut all.table.names, scenario.inits.as_slice());
+    contribute(&mut all.clusters);
     settle_parts(&mut all.clusters, &None);
     host_anew(&mut all.clusters);
     Ok(all)

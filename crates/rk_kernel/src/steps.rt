@@ -14,6 +14,7 @@ ghost use Rattle.rk_kernel.specs.Step.{IsStep};
 use rk_directives::actions::action;
 use rk_directives::outcomes::{conclude, last_of};
 use rk_model::{Entry, ThreadIx, What, Why};
+use rk_parts::contribute::contribute;
 use rk_parts::helping::host_parts;
 use rk_parts::lent::thread_of;
 use rk_parts::parts::AllParts;
@@ -52,6 +53,7 @@ pub(crate) fn act_by(all: &mut AllParts, cpu: u8, thread: ThreadIx) -> Entry
     let answer = action(all, thread, &was);
     let reply = conclude(&all.scenario, &mut all.clusters, thread, &answer);
     let last = last_of(&answer);
+    contribute(&mut all.clusters);
     settle_parts(&mut all.clusters, &last);
     host_parts(&mut all.clusters);
     Entry {

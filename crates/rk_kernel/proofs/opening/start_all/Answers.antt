@@ -19,6 +19,7 @@ loop-at-preserved c =
       started = λ table groups. started_next s table groups c.args.clusters.now c.loop-at.clusters c.make.new.clusters c.new.result c.begin-thread.result c.at.result c.loop-at.at (omega arith) c.requires.within.few_inits c.at.ensures c.begin-thread.ensures c.new.ensures (c.make.ensures.state s table groups c.loop-at.invariant.laid) (c.loop-at.invariant.started table groups);
       laid = c.make.ensures.laid s.clusters c.loop-at.invariant.laid (λ _. home);
       kept = c.make.ensures.kept ∙ c.loop-at.invariant.kept;
+      accounts = c.make.ensures.accounts ∙ c.loop-at.invariant.accounts;
       held = c.make.ensures.held ∙ c.loop-at.invariant.held;
     }
 

@@ -13,7 +13,7 @@ use Rattle.rk_kernel.proofs.CallerLemmas.{acting_of}
 use Rattle.rk_directives.proofs.KeptHoldingLemmas.{still_held}
 use Rattle.rk_directives.proofs.DirectiveLemmas.LentLemmas.{laid_kept}
 use Rattle.rk_directives.proofs.DirectiveLemmas.ActionLemmas.{action_done, line_after, bodies_after, lives_after, followed}
-use Rattle.rk_kernel.proofs.PartsSettledLemmas.{as_settled, IsChanged, settled}
+use Rattle.rk_kernel.proofs.PartsSettledLemmas.{as_settled, few_clusters, framed_contributes, have_each_priority, have_priorities, IsChanged, settled}
 use Rattle.rk_kernel.proofs.steps.act_by.Goals as goal
 
 pub action-answer-requires-clause-acts : goal.action-answer-requires-clause-acts
@@ -30,6 +30,24 @@ conclude-reply-requires-clause-line c =
 pub conclude-reply-requires-clause-bodies : goal.conclude-reply-requires-clause-bodies
 conclude-reply-requires-clause-bodies c =
     bodies_after (plain_of c.args.all.now) (plain_of c.action-answer.new.all) c.args.thread (acting_of (plain_of c.args.all.now) c.args.cpu c.args.thread c.requires.ready.sound c.requires.caller) c.action-answer.ensures.state
+
+pub contribute-requires-clause-lent : goal.contribute-requires-clause-lent
+contribute-requires-clause-lent c =
+    (framed_contributes c.args.all.now c.action-answer.new.all.clusters c.conclude-reply.new.clusters c.requires.ready c.action-answer.ensures.laid c.action-answer.ensures.kept c.action-answer.ensures.accounts c.conclude-reply.ensures.next.kept).lent
+
+pub contribute-requires-clause-lives : goal.contribute-requires-clause-lives
+contribute-requires-clause-lives c =
+    (framed_contributes c.args.all.now c.action-answer.new.all.clusters c.conclude-reply.new.clusters c.requires.ready c.action-answer.ensures.laid c.action-answer.ensures.kept c.action-answer.ensures.accounts c.conclude-reply.ensures.next.kept).lives
+
+pub contribute-requires-clause-homes : goal.contribute-requires-clause-homes
+contribute-requires-clause-homes c =
+    (framed_contributes c.args.all.now c.action-answer.new.all.clusters c.conclude-reply.new.clusters c.requires.ready c.action-answer.ensures.laid c.action-answer.ensures.kept c.action-answer.ensures.accounts c.conclude-reply.ensures.next.kept).homes
+
+pub action-answer-requires-clause-prios : goal.action-answer-requires-clause-prios
+action-answer-requires-clause-prios c = have_priorities c.args.all.now c.requires.ready.whole c.requires.ready.noted (few_clusters c.args.all.now c.requires.ready)
+
+pub action-answer-requires-clause-each : goal.action-answer-requires-clause-each
+action-answer-requires-clause-each c = have_each_priority c.args.all.now c.requires.ready.whole c.requires.ready.noted (few_clusters c.args.all.now c.requires.ready)
 
 pub returns : goal.returns
 returns c =
@@ -49,11 +67,12 @@ returns c =
       state = is;
       laid = laid_kept all.scenario.clusters done.clusters mid.clusters ends.kept c.action-answer.ensures.laid;
       kept = ap (λ (f : Frame). f.stored) ends.kept ∙ c.action-answer.ensures.kept;
+      accounts = ap (λ (f : Frame). f.accounts) ends.kept ∙ c.action-answer.ensures.accounts;
       held = still_held done.clusters mid.clusters done.groups done.groups ends.held (λ i. refl) c.action-answer.ensures.held;
       rest = c.action-answer.ensures.rest;
     } in
     let last = c.last_of-last.ensures ∙ ap (λ (a : Answer). last_of a) c.action-answer.ensures.told in
-    let after = settled all mid c.host_parts.new.clusters (after_outcome k t o) (option_to_list c.last_of-last.result) (as_settled all c.requires.ready) changed (c.host_parts.ensures.kept ∙ c.settle_parts.ensures) c.host_parts.ensures.hosted in
+    let after = settled all mid c.contribute.new.clusters c.host_parts.new.clusters (after_outcome k t o) (option_to_list c.last_of-last.result) (as_settled all c.requires.ready) changed c.contribute.ensures.flat c.contribute.ensures.lent (c.host_parts.ensures.kept ∙ c.settle_parts.ensures) c.host_parts.ensures.hosted in
     record {
       entry = search rules;
       next = after.state ∙ ap (λ (l : Option ℕ). settle k (after_outcome k t o) (option_to_list l)) last;
