@@ -1,7 +1,7 @@
 -- What directives return: an out number of 32 bits, and where one comes back, a status that isn't that of waiting; and that each started thread has a body.
-use Rattle.std.proofs.Common.{◌≡◌, ℕ, zero, suc, ◌+◌, ◌-◌, ◌*◌, ◌/◌, ◌^◌, ◌<◌, ◌≤◌, List, [], ◌∷◌, ◌++◌, Bool, true, false, cond, eqb, ltb, not, ◌||◌, ◌⊎◌, inl, inr, Option, Some, None, length, get_or, map, replicate, arith, refl, subst, bit_and, bit_or}
+use Rattle.std.proofs.Common.{◌≡◌, ℕ, zero, suc, ◌+◌, ◌-◌, ◌*◌, ◌/◌, ◌^◌, ◌<◌, ◌≤◌, List, [], ◌∷◌, ◌++◌, Bool, true, false, cond, eqb, ltb, not, ◌&&◌, ◌||◌, ◌⊎◌, inl, inr, Option, Some, None, is_none, length, get_or, map, replicate, arith, refl, sym, subst, bit_and, bit_or}
 use Rattle.std.specs.Prelude.{◌==◌, nat_lt, IfSome}
-use Rattle.std.specs.List.{AllByRecursion}
+use Rattle.std.specs.List.{AllByRecursion, slice_index_or, slice_set}
 use Rattle.std.proofs.Math.Nat.{div-mul-le_self}
 use Rattle.std.proofs.lemmas.Nat.{and_le_l, or_of_32, xor_of_32}
 use Rattle.std.proofs.lemmas.Bool.{false≢true}
@@ -9,13 +9,18 @@ use Rattle.std.proofs.lemmas.Bool.Decides.{nat_tests}
 use Rattle.rk_model.specs.declared.scenario.Scenario.{Scenario}
 use Rattle.rk_model.specs.declared.scenario.Init.{Init}
 use Rattle.rk_model.specs.declared.scenario.Op.{Op}
-use Rattle.rk_model.specs.declared.scenario.Op.TheVariants.{Work, Goto, TaskCreate, TaskIdent, TaskStart, TaskSuspend, TaskResume, TaskSetPriority, TaskDelete, TaskWakeAfter, EventSend, EventReceive, SemCreate, SemIdent, SemObtain, SemRelease, SemFlush, SemDelete, BarrierCreate, BarrierIdent, BarrierWait, BarrierRelease, BarrierDelete, PartCreate, PartIdent, PartGet, PartReturn, PartDelete, PeriodCreate, PeriodIdent, PeriodPeriod, PeriodCancel, PeriodDelete}
+use Rattle.rk_model.specs.declared.scenario.Op.TheVariants.{Work, Goto, TaskCreate, TaskIdent, TaskStart, TaskSuspend, TaskResume, TaskSetPriority, TaskGetPriority, TaskDelete, TaskWakeAfter, EventSend, EventReceive, SemCreate, SemIdent, SemObtain, SemRelease, SemFlush, SemDelete, SemSetPriority, BarrierCreate, BarrierIdent, BarrierWait, BarrierRelease, BarrierDelete, PartCreate, PartIdent, PartGet, PartReturn, PartDelete, PeriodCreate, PeriodIdent, PeriodPeriod, PeriodCancel, PeriodDelete}
 use Rattle.rk_model.specs.declared.scenario.Target.{Target}
 use Rattle.rk_model.specs.declared.scenario.Wish.{Wish}
 use Rattle.rk_model.specs.declared.scenario.Wish.TheVariants.{NoWait, Limit}
 use Rattle.rk_model.specs.declared.semaphore.SemSpec.{SemSpec}
+use Rattle.rk_model.specs.declared.semaphore.Protocol.{Protocol}
+use Rattle.rk_model.specs.declared.semaphore.Protocol.TheVariants.{NoProtocol, Inherit, Ceiling, Mrsp}
+use Rattle.rk_model.specs.declared.semaphore.SemKind.{SemKind}
+use Rattle.rk_model.specs.declared.semaphore.SemKind.TheVariants.{Counting, Simple, Binary}
+use Rattle.rk_model.specs.declared.waiting.Caller.{Caller}
 use Rattle.rk_model.specs.declared.status.Status.{Status}
-use Rattle.rk_model.specs.declared.status.Status.TheVariants.{Successful, InvalidPriority, InvalidAddress, InvalidSize, Unsatisfied, ObjectWasDeleted, ResourceInUse, NotOwnerOfResource}
+use Rattle.rk_model.specs.declared.status.Status.TheVariants.{Successful, InvalidPriority, InvalidAddress, InvalidSize, Unsatisfied, ObjectWasDeleted, ResourceInUse, NotOwnerOfResource, NotDefined, InvalidNumber}
 use Rattle.rk_model.specs.declared.ids.Class.{Class}
 use Rattle.rk_model.specs.declared.ids.Class.TheVariants.{Task, Semaphore, Partition, Period, Barrier}
 use Rattle.rk_model.specs.declared.entry.Reply.{Reply}
@@ -32,25 +37,25 @@ use Rattle.rk_model.specs.declared.state.Wait.TheVariants.{ForTime, ForEvents, A
 use Rattle.rk_model.specs.Ids.{id_of}
 use Rattle.rk_model.specs.Lists.{has, nth}
 use Rattle.rk_model.specs.Names.{least_named, taken}
-use Rattle.rk_model.specs.Queues.{threads}
-use Rattle.rk_model.specs.State.{Plain, PartitionState, SemaphoreState, no_semaphore, cluster_at, no_thread, no_partition, thread_at, put_thread, barrier_at, partition_at, put_partition, period_at, semaphore_at, put_semaphore, op_at}
-use Rattle.rk_model.specs.Scheduling.Priorities.{is_started, or_least_urgent, prio, home_prio}
+use Rattle.rk_model.specs.Queues.{threads, lesser, served_by}
+use Rattle.rk_model.specs.State.{Plain, PartitionState, SemaphoreState, no_semaphore, cluster_at, no_thread, no_partition, thread_at, put_thread, barrier_at, partition_at, put_partition, period_at, semaphore_at, put_semaphore, op_at, no_ceilings}
+use Rattle.rk_model.specs.Scheduling.Priorities.{is_started, or_least_urgent, prio, home_prio, ceiling_in, contribution, is_behind, least_of, lesser_of, own}
 use Rattle.rk_model.specs.Scheduling.Running.{runs_somewhere}
 use Rattle.rk_model.specs.Scheduling.Ticks.{charged, ticked, charge_from, pass, rung, fire, fire_each, fire_cluster, fire_from, tick}
 use Rattle.rk_model.specs.Scheduling.Timers.{take_due, arm, due_at}
 use Rattle.rk_model.specs.Directives.Objects.{names_in, put_names, create_at, unless, create, on_named, ident, object_named}
 use Rattle.rk_model.specs.Directives.Outcomes.{Outcome, Refused, Done, Waiting, Gone, done, on_found, answer_of, out_of, status_of, gone_on, finished, go_on, after_outcome}
-use Rattle.rk_model.specs.Directives.Waits.{caller_at, enter, start_wait, begin_limited, leave, stop_wait, end_wait, end_each, stop_each, bare, reply_at_timer}
-use Rattle.rk_model.specs.Directives.Tasks.{task_named, dormant_in, prio_refusal, task_create, is_dormant, with_started, task_start, with_suspended, task_suspend, task_resume, task_set_priority, without_task, has_created, task_removed, task_delete, task_exit, task_wake_after}
+use Rattle.rk_model.specs.Directives.Waits.{caller_at, enter, start_wait, begin_limited, leave, stop_wait, end_wait, end_each, stop_each, bare, reply_at_timer, Object, OfBarrier, OfSemaphore, object_of_wait, with_waiter, with_waiter_in, without_waiter, without_waiter_in}
+use Rattle.rk_model.specs.Directives.Tasks.{task_named, dormant_in, prio_refusal, task_create, is_dormant, with_started, task_start, with_suspended, task_suspend, task_resume, task_set_priority, without_task, has_created, task_removed, task_delete, task_exit, task_wake_after, told_prio, task_get_priority}
 use Rattle.rk_model.specs.Directives.Events.{is_met, seized, left_of, with_pending, with_seized, seized_by, sent, event_send, receive_later, receive_by, event_receive}
-use Rattle.rk_model.specs.Directives.Semaphores.{Obtaining, Nests, Takes, NotObtained, Enters, obtained_at, is_mrsp, semaphore_create, semaphore_obtain, Releasing, NotReleased, Unnests, Serves, Frees, released_at, semaphore_release, emptied_at, semaphore_flush, has_obtained, is_owned, handed_to, up_to_date, flushed, without_semaphore, semaphore_delete}
+use Rattle.rk_model.specs.Directives.Semaphores.{Obtaining, Nests, Takes, NotObtained, Enters, obtained_at, is_mrsp, semaphore_create, semaphore_obtain, Releasing, NotReleased, Unnests, Serves, Frees, released_at, semaphore_release, emptied_at, semaphore_flush, has_obtained, is_owned, handed_to, up_to_date, flushed, without_semaphore, semaphore_delete, CeilingSetting, NotSet, Keeps, Sets, create_refusal, freed, freed_by, free_semaphore, given_to, has_ceiling, has_great_count, has_invalid_ceiling, has_undefined_protocol, is_below_ceiling, is_binary, is_owned_mrsp, nested, new_ceilings, new_semaphore, owned_by, semaphore_set_priority, set_at, setting_ceiling, spec_refusal, taken as obtained_by, unnested, with_ceiling}
 use Rattle.rk_model.specs.Directives.Barriers.{most_refusal, barrier_create, end_at, is_full, barrier_wait, barrier_release, without_barrier, barrier_delete}
 use Rattle.rk_model.specs.Directives.Partitions.{addresses, all_buffers, buffers, is_out, has_invalid_size, has_invalid_address, memory_refusal, partition_create, taken_first, partition_get, with_free, given_back_to, partition_return, is_in_use, without_partition, partition_delete}
 use Rattle.rk_model.specs.Directives.Periods.{asked, with_next, begins, period_create, period_period, rearmed, passed_by, cancelled, period_cancel, is_awaited, without_period, period_delete}
 use Rattle.rk_model.specs.Steps.{directive, action_on, what_of}
 use Rattle.rk_model.specs.Histories.{begun, places, opening}
 use Rattle.rk_model.proofs.BooleanLemmas.{and_front, either, same_number}
-use Rattle.rk_model.proofs.IndexLemmas.{nth-with_holds}
+use Rattle.rk_model.proofs.IndexLemmas.{nth-with_holds, nth-with_kept}
 use Rattle.rk_model.specs.Status.{status_code}
 use Rattle.rk_schedule.proofs.WordFormLemmas.{is_waits}
 use Rattle.rk_schedule.proofs.FormedLineLemmas.{CanStand}
@@ -83,24 +88,45 @@ pub record AreMemory (start length : ℕ) (free : List ℕ) : Type 0 where
 abbrev pub IsMemory : PartitionState → Type 0
 IsMemory partition = AreMemory partition.start partition.length partition.free
 
--- All threads and partitions are so.
-pub record AreWithin (n : ℕ) (threads : List Thread) (partitions : List PartitionState) : Type 0 where
+-- All threads and partitions are so, and the ceilings of semaphores have 32 bits.
+pub record AreWithin (n : ℕ) (threads : List Thread) (partitions : List PartitionState) (semaphores : List SemaphoreState) : Type 0 where
   pub thread : (t : ℕ) → IsBounded n (nth no_thread threads t)
   pub partition : (i : ℕ) → IsMemory (nth no_partition partitions i)
+  pub ceilings : (i : ℕ) → AreLow (nth no_semaphore semaphores i).ceilings
 
 abbrev pub IsWithin : ℕ → Plain → Type 0
-IsWithin n k = AreWithin n k.threads k.partitions
+IsWithin n k = AreWithin n k.threads k.partitions k.semaphores
 
 none_bounded : (n : ℕ) → IsBounded n no_thread
 none_bounded n = record { has_body = λ life. absurd (false≢true life); urgent = omega arith; events = omega arith; ending = tt }
 
 within_put : (n : ℕ) (k : Plain) (t : ℕ) (thread : Thread) → IsWithin n k → IsBounded n thread → IsWithin n (put_thread k t thread)
-within_put n k t thread within is = record { thread = λ u. nth-with_holds (IsBounded n) no_thread thread k.threads t u is (within.thread u); partition = within.partition }
+within_put n k t thread within is = record { thread = λ u. nth-with_holds (IsBounded n) no_thread thread k.threads t u is (within.thread u); partition = within.partition; ceilings = within.ceilings }
 
 within_partition : (n : ℕ) (k : Plain) (i : ℕ) (partition : PartitionState) → IsWithin n k → IsMemory partition → IsWithin n (put_partition k i partition)
-within_partition n k i partition within is = record { thread = within.thread; partition = λ j. nth-with_holds IsMemory no_partition partition k.partitions i j is (within.partition j) }
+within_partition n k i partition within is = record { thread = within.thread; partition = λ j. nth-with_holds IsMemory no_partition partition k.partitions i j is (within.partition j); ceilings = within.ceilings }
+
+within_semaphore : (n : ℕ) (k : Plain) (i : ℕ) (sem : SemaphoreState) → IsWithin n k → AreLow sem.ceilings → IsWithin n (put_semaphore k i sem)
+within_semaphore n k i sem within is = record { thread = within.thread; partition = within.partition; ceilings = λ j. nth-with_holds (λ (x : SemaphoreState). AreLow x.ceilings) no_semaphore sem k.semaphores i j is (within.ceilings j) }
 
 -- ---- waits
+
+-- who leaves a queue or enters it changes no ceiling
+ceilings_left : (semaphores : List SemaphoreState) (t : ℕ) (object : Option Object) (i : ℕ) → (nth no_semaphore (without_waiter_in semaphores t object) i).ceilings ≡ (nth no_semaphore semaphores i).ceilings
+ceilings_left semaphores t None i = refl
+ceilings_left semaphores t (Some (OfBarrier j)) i = refl
+ceilings_left semaphores t (Some (OfSemaphore j)) i = nth-with_kept (λ (x : SemaphoreState). x.ceilings) no_semaphore (without_waiter t (nth no_semaphore semaphores j)) semaphores j i refl
+
+ceilings_entered : (semaphores : List SemaphoreState) (by : Caller) (object : Option Object) (i : ℕ) → (nth no_semaphore (with_waiter_in semaphores by object) i).ceilings ≡ (nth no_semaphore semaphores i).ceilings
+ceilings_entered semaphores by None i = refl
+ceilings_entered semaphores by (Some (OfBarrier j)) i = refl
+ceilings_entered semaphores by (Some (OfSemaphore j)) i = nth-with_kept (λ (x : SemaphoreState). x.ceilings) no_semaphore (with_waiter by (nth no_semaphore semaphores j)) semaphores j i refl
+
+within_leave : (n : ℕ) (k : Plain) (t : ℕ) → IsWithin n k → IsWithin n (leave k t)
+within_leave n k t within = record { thread = within.thread; partition = within.partition; ceilings = λ i. subst AreLow (sym (ceilings_left k.semaphores t (object_of_wait (thread_at k t).wait) i)) (within.ceilings i) }
+
+within_enter : (n : ℕ) (k : Plain) (by : Caller) (wait : Option Wait) → IsWithin n k → IsWithin n (enter k by wait)
+within_enter n k by wait within = record { thread = within.thread; partition = within.partition; ceilings = λ i. subst AreLow (sym (ceilings_entered k.semaphores by (object_of_wait wait) i)) (within.ceilings i) }
 
 within_stop : (n : ℕ) (k : Plain) (t : ℕ) (reply : Reply) → IsWithin n k → IsEnding reply → IsWithin n (stop_wait k t reply)
 within_stop n k t reply within ending =
@@ -108,7 +134,7 @@ within_stop n k t reply within ending =
     within_put n k t (record (thread_at k t) { wait = None; finished = Some reply }) within (record { has_body = was.has_body; urgent = was.urgent; events = was.events; ending = ending })
 
 within_end : (n : ℕ) (k : Plain) (t : ℕ) (reply : Reply) → IsWithin n k → IsEnding reply → IsWithin n (end_wait k t reply)
-within_end n k t reply within ending = within_stop n (leave k t) t reply within ending
+within_end n k t reply within ending = within_stop n (leave k t) t reply (within_leave n k t within) ending
 
 within_stops : (n : ℕ) (k : Plain) (ts : List ℕ) (reply : Reply) → IsWithin n k → IsEnding reply → IsWithin n (stop_each k ts reply)
 within_stops n k [] reply within ending = within
@@ -127,8 +153,8 @@ within_started n k t wait within = within_put n k t (record (thread_at k t) { wa
 within_limited : (n : ℕ) (k : Plain) (t : ℕ) (wait : Wait) (ticks : ℕ) → IsWithin n k → IsWithin n (begin_limited k t wait ticks)
 within_limited n k t wait ticks within = by (eqb ticks 0) (within_started n k t wait within) where
   by : (b : Bool) → IsWithin n (start_wait k t wait) → IsWithin n (enter (cond b (start_wait k t wait) (arm (start_wait k t wait) (thread_at k t).home (record { who = OfThread t; due = k.present + ticks }))) (caller_at k t) (Some wait))
-  by true begun = begun
-  by false begun = begun
+  by true begun = within_enter n (start_wait k t wait) (caller_at k t) (Some wait) begun
+  by false begun = within_enter n (arm (start_wait k t wait) (thread_at k t).home (record { who = OfThread t; due = k.present + ticks })) (caller_at k t) (Some wait) begun
 
 -- ---- outcomes
 
@@ -218,12 +244,54 @@ task_suspend_returns n k t id within = returns_found n (task_named k t id) _ (λ
 task_resume_returns : (n : ℕ) (k : Plain) (t : ℕ) (id : Target) → IsWithin n k → Returns n (task_resume k t id)
 task_resume_returns n k t id within = returns_found n (task_named k t id) _ (λ u. returns_if n (thread_at k u).suspended _ _ (returns_done n (with_suspended k u false) (suspended_within n k u false within)) tt)
 
+-- ---- priorities
+
+-- a priority that is at most the least urgent one, if it is one
+abbrev IsUrgent : Option ℕ → Type 0
+IsUrgent o = IfSome o (λ p. p ≤ 255)
+
+lesser_urgent : (o rest : Option ℕ) → IsUrgent o → IsUrgent rest → IsUrgent (lesser_of o rest)
+lesser_urgent None rest is more = more
+lesser_urgent (Some p) None is more = is
+lesser_urgent (Some p) (Some q) is more = omega (arith, is)
+
+least_urgent : (f : ℕ → Option ℕ) (a m : ℕ) → ((u : ℕ) → IsUrgent (f u)) → IsUrgent (least_of f a m)
+least_urgent f a zero is = tt
+least_urgent f a (suc m) is = lesser_urgent (f a) (least_of f (a + 1) m) (is a) (least_urgent f (a + 1) m is)
+
+lesser_low : (p : ℕ) (o : Option ℕ) → p ≤ 255 → lesser p o ≤ 255
+lesser_low p None low = low
+lesser_low p (Some q) low = omega (arith, low)
+
+own_urgent : (n : ℕ) (k : Plain) (u : ℕ) → IsWithin n k → own k u ≤ 255
+unfolding own
+own_urgent n k u within = lesser_low (thread_at k u).base _ (within.thread u).urgent
+
+contribution_urgent : (n : ℕ) (k : Plain) (t c u : ℕ) → IsWithin n k → IsUrgent (contribution k t c u)
+unfolding contribution
+contribution_urgent n k t c u within = by (is_behind k t c u) where
+  by : (b : Bool) → IsUrgent (cond b (Some (own k u)) None)
+  by true = own_urgent n k u within
+  by false = tt
+
+prio_urgent : (n : ℕ) (k : Plain) (t c : ℕ) → IsWithin n k → IsUrgent (prio k t c)
+unfolding prio
+prio_urgent n k t c within = least_urgent (contribution k t c) 1 (length k.threads) (λ u. contribution_urgent n k t c u within)
+
+told_low : (o : Option ℕ) → IsUrgent o → or_least_urgent o ≤ 4294967296
+told_low None is = omega arith
+told_low (Some p) is = omega (arith, is)
+
 prio_low : (n : ℕ) (k : Plain) (u : ℕ) → IsWithin n k → home_prio k u ≤ 4294967296
-unfolding home_prio prio
-prio_low n k u within = by (eqb (thread_at k u).home (thread_at k u).home) where
-  by : (b : Bool) → or_least_urgent (cond b (Some (thread_at k u).base) None) ≤ 4294967296
-  by true = let was = within.thread u in omega (arith, was.urgent)
-  by false = omega arith
+unfolding home_prio
+prio_low n k u within = told_low (prio k u (thread_at k u).home) (prio_urgent n k u (thread_at k u).home within)
+
+told_returns : (n : ℕ) (k : Plain) (o : Option ℕ) → IsUrgent o → IsWithin n k → Returns n (told_prio k o)
+told_returns n k None is within = tt
+told_returns n k (Some p) is within = (omega (arith, is), within)
+
+task_get_priority_returns : (n : ℕ) (k : Plain) (t : ℕ) (id : Target) (c : ℕ) → IsWithin n k → Returns n (task_get_priority k t id c)
+task_get_priority_returns n k t id c within = returns_found n (task_named k t id) _ (λ u. told_returns n k (prio k u c) (prio_urgent n k u c within) within)
 
 task_set_priority_returns : (n : ℕ) (k : Plain) (t : ℕ) (id : Target) (prio : ℕ) → IsWithin n k → Returns n (task_set_priority k t id prio)
 task_set_priority_returns n k t id prio within = returns_found n (task_named k t id) _ (λ u. returns_else n (ltb 255 prio) _ _ tt
@@ -231,7 +299,7 @@ task_set_priority_returns n k t id prio within = returns_found n (task_named k t
     (prio_low n k u within, within_put n k u (record (thread_at k u) { base = prio }) within (let was = within.thread u in record { has_body = was.has_body; urgent = grind (arith, nat_tests, high); events = was.events; ending = was.ending }))))
 
 removed_within : (n : ℕ) (k : Plain) (u : ℕ) → IsWithin n k → IsWithin n (without_task k u)
-removed_within n k u within = within_put n k u no_thread within (none_bounded n)
+removed_within n k u within = within_put n (leave k u) u no_thread (within_leave n k u within) (none_bounded n)
 
 task_delete_returns : (n : ℕ) (k : Plain) (t : ℕ) (id : Target) → IsWithin n k → Returns n (task_delete k t id)
 task_delete_returns n k t id within = returns_found n (task_named k t id) _ (λ u. returns_if n (has_obtained k.semaphores u || has_created k.periods u) (Refused ResourceInUse) (task_removed k t u) tt (returns_if n (eqb u t) (Gone Successful (without_task k u)) (done 0 (without_task k u)) (removed_within n k u within) (returns_done n (without_task k u) (removed_within n k u within))))
@@ -402,12 +470,74 @@ period_delete_returns n k t id within = returns_found n (object_named k t Period
 
 -- ---- the semaphore manager
 
+low_set : (xs : List ℕ) (i x : ℕ) → AreLow xs → x ≤ 4294967296 → AreLow (slice_set xs i x)
+low_set [] i x are low = are
+low_set (y ∷ ys) zero x are low = (low, are.1)
+low_set (y ∷ ys) (suc i) x are low = (are.0, low_set ys i x are.1 low)
+
+low_at : (xs : List ℕ) (i : ℕ) → AreLow xs → slice_index_or xs i 0 ≤ 4294967296
+low_at [] i are = omega arith
+low_at (x ∷ xs) zero are = are.0
+low_at (x ∷ xs) (suc i) are = low_at xs i are.1
+
+none_low : AreLow no_ceilings
+none_low = (omega arith, (omega arith, (omega arith, (omega arith, tt))))
+
+-- the ceilings of a semaphore that can be created have 32 bits
+no_refusal : (a b c d e : Bool) → cond a (Some NotDefined) (cond b (Some InvalidNumber) (cond c (Some InvalidNumber) (cond d (Some InvalidPriority) (cond e (Some InvalidPriority) None)))) ≡ None → d ≡ false
+no_refusal a b c false e none = refl
+no_refusal true b c true e none = let no : ⊥ = cc in absurd no
+no_refusal false true c true e none = let no : ⊥ = cc in absurd no
+no_refusal false false true true e none = let no : ⊥ = cc in absurd no
+no_refusal false false false true e none = let no : ⊥ = cc in absurd no
+
+ceilings_low : (protocol : Protocol) (ceiling home : ℕ) → (has_ceiling protocol ≡ true → ceiling ≤ 255) → AreLow (new_ceilings protocol ceiling home)
+ceilings_low NoProtocol ceiling home low = none_low
+ceilings_low Inherit ceiling home low = none_low
+ceilings_low Ceiling ceiling home low = let few = low refl in low_set no_ceilings home ceiling none_low (omega (arith, few))
+ceilings_low Mrsp ceiling home low = let few = low refl in (omega (arith, few), (omega (arith, few), (omega (arith, few), (omega (arith, few), tt))))
+
+created_low : (spec : SemSpec) (prio : ℕ) (by : Caller) → create_refusal spec prio ≡ None → AreLow (new_semaphore spec by).ceilings
+created_low spec prio by none = owned (is_binary spec.kind && (spec.count == 0)) where
+  valid : (b : Bool) → cond b (Some NotDefined) (spec_refusal spec prio) ≡ None → has_invalid_ceiling spec ≡ false
+  valid true is = let no : ⊥ = cc in absurd no
+  valid false is = no_refusal (has_undefined_protocol spec) (has_great_count spec) (is_owned_mrsp spec) (has_invalid_ceiling spec) (is_below_ceiling spec prio) is
+
+  few : (b c : Bool) → (b && (c || nat_lt 255 spec.ceiling)) ≡ false → b ≡ true → spec.ceiling ≤ 255
+  few true true h is = absurd (false≢true (sym h))
+  few true false h is = grind (arith, nat_tests, h)
+  few false c h is = absurd (false≢true is)
+
+  low : AreLow (new_ceilings spec.protocol spec.ceiling by.home)
+  low = ceilings_low spec.protocol spec.ceiling by.home (few (has_ceiling spec.protocol) (spec.ceiling == 0) (valid (is_mrsp spec.protocol) none))
+
+  owned : (b : Bool) → AreLow (cond b (owned_by by.thread (free_semaphore spec by.home)) (free_semaphore spec by.home)).ceilings
+  owned true = low
+  owned false = low
+
 semaphore_create_returns : (n : ℕ) (k : Plain) (t name : ℕ) (spec : SemSpec) → AreIndicesFew k → IsWithin n k → Returns n (semaphore_create k t name spec)
-semaphore_create_returns n k t name spec few within = returns_create n k Semaphore name _ _ few (λ none index m kept. kept) within
+semaphore_create_returns n k t name spec few within = returns_create n k Semaphore name _ _ few (λ none index m kept. within_semaphore n m index (new_semaphore spec (caller_at k t)) kept (created_low spec (home_prio k t) (caller_at k t) none)) within
+
+taken_low : (t : ℕ) (sem : SemaphoreState) → AreLow sem.ceilings → AreLow (obtained_by t sem).ceilings
+taken_low t sem low = by (is_binary sem.kind) where
+  by : (b : Bool) → AreLow (cond b (owned_by t sem) (record sem { count = sem.count - 1 })).ceilings
+  by true = low
+  by false = low
+
+given_low : (u : ℕ) (sem : SemaphoreState) → AreLow sem.ceilings → AreLow (given_to u sem).ceilings
+given_low u sem low = by (is_binary sem.kind) where
+  by : (b : Bool) → AreLow (cond b (owned_by u sem) sem).ceilings
+  by true = low
+  by false = low
+
+freed_low : (kind : SemKind) (sem : SemaphoreState) → AreLow sem.ceilings → AreLow (freed_by kind sem).ceilings
+freed_low Counting sem low = low
+freed_low Simple sem low = low
+freed_low Binary sem low = low
 
 obtaining_returns : (n : ℕ) (k : Plain) (t i : ℕ) (obtaining : Obtaining) → IsWithin n k → Returns n (obtained_at k t i obtaining)
-obtaining_returns n k t i Nests within = (omega arith, within)
-obtaining_returns n k t i Takes within = (omega arith, within)
+obtaining_returns n k t i Nests within = (omega arith, within_semaphore n k i (nested (semaphore_at k i)) within (within.ceilings i))
+obtaining_returns n k t i Takes within = (omega arith, within_semaphore n k i (obtained_by t (semaphore_at k i)) within (taken_low t (semaphore_at k i) (within.ceilings i)))
 obtaining_returns n k t i (NotObtained status) within = tt
 obtaining_returns n k t i (Enters ticks) within = within_limited n k t (ForSemaphore i (is_mrsp (semaphore_at k i).protocol)) ticks within
 
@@ -416,21 +546,40 @@ semaphore_obtain_returns n k t id wish within = returns_found n (object_named k 
 
 releasing_returns : (n : ℕ) (k : Plain) (i : ℕ) (releasing : Releasing) → IsWithin n k → Returns n (released_at k i releasing)
 releasing_returns n k i (NotReleased status) within = tt
-releasing_returns n k i Unnests within = (omega arith, within)
-releasing_returns n k i (Serves u) within = (omega arith, within_stop n (put_semaphore k i (handed_to u (up_to_date k (semaphore_at k i)))) u (bare Successful) within (bare_ending Successful refl))
-releasing_returns n k i Frees within = (omega arith, within)
+releasing_returns n k i Unnests within = (omega arith, within_semaphore n k i (unnested (semaphore_at k i)) within (within.ceilings i))
+releasing_returns n k i (Serves u) within = (
+  omega arith,
+  within_stop n (put_semaphore k i (handed_to u (up_to_date k (semaphore_at k i)))) u (bare Successful)
+      (within_semaphore n k i (handed_to u (up_to_date k (semaphore_at k i))) within (given_low u (record (up_to_date k (semaphore_at k i)) { queue = served_by u (up_to_date k (semaphore_at k i)).queue }) (within.ceilings i)))
+      (bare_ending Successful refl),
+)
+releasing_returns n k i Frees within = (omega arith, within_semaphore n k i (freed (semaphore_at k i)) within (freed_low (semaphore_at k i).kind (semaphore_at k i) (within.ceilings i)))
 
 semaphore_release_returns : (n : ℕ) (k : Plain) (t : ℕ) (id : Target) → IsWithin n k → Returns n (semaphore_release k t id)
 semaphore_release_returns n k t id within = returns_found n (object_named k t Semaphore id) _ (λ i. releasing_returns n k i _ within)
 
-emptied_within : (n : ℕ) (k : Plain) (i : ℕ) (sem : SemaphoreState) (status : Status) → is_waits status ≡ false → IsWithin n k → IsWithin n (emptied_at k i sem status)
-emptied_within n k i sem status ended within = within_stops n (put_semaphore k i sem) (threads (semaphore_at k i).queue.arrivals) (bare status) within (bare_ending status ended)
+emptied_within : (n : ℕ) (k : Plain) (i : ℕ) (sem : SemaphoreState) (status : Status) → is_waits status ≡ false → AreLow sem.ceilings → IsWithin n k → IsWithin n (emptied_at k i sem status)
+emptied_within n k i sem status ended low within = within_stops n (put_semaphore k i sem) (threads (semaphore_at k i).queue.arrivals) (bare status) (within_semaphore n k i sem within low) (bare_ending status ended)
 
 semaphore_flush_returns : (n : ℕ) (k : Plain) (t : ℕ) (id : Target) → IsWithin n k → Returns n (semaphore_flush k t id)
-semaphore_flush_returns n k t id within = returns_found n (object_named k t Semaphore id) _ (λ i. returns_done n (emptied_at k i (flushed (semaphore_at k i)) Unsatisfied) (emptied_within n k i (flushed (semaphore_at k i)) Unsatisfied refl within))
+semaphore_flush_returns n k t id within = returns_found n (object_named k t Semaphore id) _ (λ i. returns_done n (emptied_at k i (flushed (semaphore_at k i)) Unsatisfied) (emptied_within n k i (flushed (semaphore_at k i)) Unsatisfied refl (within.ceilings i) within))
 
 semaphore_delete_returns : (n : ℕ) (k : Plain) (t : ℕ) (id : Target) → IsWithin n k → Returns n (semaphore_delete k t id)
-semaphore_delete_returns n k t id within = returns_found n (object_named k t Semaphore id) _ (λ i. returns_if n (is_owned (semaphore_at k i)) (Refused ResourceInUse) (done 0 (without_semaphore k i)) tt (returns_done n (without_semaphore k i) (emptied_within n k i no_semaphore ObjectWasDeleted refl within)))
+semaphore_delete_returns n k t id within = returns_found n (object_named k t Semaphore id) _ (λ i. returns_if n (is_owned (semaphore_at k i)) (Refused ResourceInUse) (done 0 (without_semaphore k i)) tt (returns_done n (without_semaphore k i) (emptied_within n k i no_semaphore ObjectWasDeleted refl none_low within)))
+
+set_returns : (n : ℕ) (k : Plain) (i c prio : ℕ) → IsWithin n k → Returns n (set_at k i c prio (setting_ceiling c prio (semaphore_at k i)))
+set_returns n k i c prio within = by (nat_lt 255 prio) (is_none (ceiling_in c (semaphore_at k i))) (prio == 0) refl where
+  low : slice_index_or (semaphore_at k i).ceilings c 0 ≤ 4294967296
+  low = low_at (semaphore_at k i).ceilings c (within.ceilings i)
+
+  by : (a b d : Bool) → nat_lt 255 prio ≡ a → Returns n (set_at k i c prio (cond a (NotSet InvalidPriority) (cond b (NotSet NotDefined) (cond d Keeps Sets))))
+  by true b d e = tt
+  by false true d e = tt
+  by false false true e = (low, within)
+  by false false false e = (low, within_semaphore n k i (with_ceiling c prio (semaphore_at k i)) within (low_set (semaphore_at k i).ceilings c prio (within.ceilings i) (grind (arith, nat_tests, e))))
+
+semaphore_set_priority_returns : (n : ℕ) (k : Plain) (t : ℕ) (id : Target) (c prio : ℕ) → IsWithin n k → Returns n (semaphore_set_priority k t id c prio)
+semaphore_set_priority_returns n k t id c prio within = returns_found n (object_named k t Semaphore id) _ (λ i. set_returns n k i c prio within)
 
 -- ---- all directives
 
@@ -447,16 +596,19 @@ op_returns n k t (TaskStart id body) is few within = task_start_returns n k t id
 op_returns n k t (TaskSuspend id) is few within = task_suspend_returns n k t id within
 op_returns n k t (TaskResume id) is few within = task_resume_returns n k t id within
 op_returns n k t (TaskSetPriority id prio var) is few within = task_set_priority_returns n k t id prio within
+op_returns n k t (TaskGetPriority id cluster var) is few within = task_get_priority_returns n k t id cluster within
 op_returns n k t (TaskDelete id) is few within = task_delete_returns n k t id within
 op_returns n k t (TaskWakeAfter ticks) is few within = task_wake_after_returns n k t ticks within
 op_returns n k t (EventSend id set) is few within = event_send_returns n k t id set is within
 op_returns n k t (EventReceive set all wish var) is few within = event_receive_returns n k t set all wish within
-op_returns n k t (SemCreate name spec var) is few within = semaphore_create_returns n k t name.bits spec few within
+op_returns n k t (SemCreate name count kind order protocol ceiling var) is few within =
+    semaphore_create_returns n k t name.bits (record { count = count; kind = kind; order = order; protocol = protocol; ceiling = ceiling }) few within
 op_returns n k t (SemIdent name var) is few within = returns_ident n k Semaphore name.bits few within
 op_returns n k t (SemObtain id wish) is few within = semaphore_obtain_returns n k t id wish within
 op_returns n k t (SemRelease id) is few within = semaphore_release_returns n k t id within
 op_returns n k t (SemFlush id) is few within = semaphore_flush_returns n k t id within
 op_returns n k t (SemDelete id) is few within = semaphore_delete_returns n k t id within
+op_returns n k t (SemSetPriority id cluster prio var) is few within = semaphore_set_priority_returns n k t id cluster prio within
 op_returns n k t (BarrierCreate name automatic most var) is few within = barrier_create_returns n k name.bits automatic most few within
 op_returns n k t (BarrierIdent name var) is few within = returns_ident n k Barrier name.bits few within
 op_returns n k t (BarrierWait id ticks) is few within = barrier_wait_returns n k t id ticks within
@@ -533,7 +685,7 @@ charge_bounded n k t (thread ∷ threads) zero each = ticked_bounded n k t threa
 charge_bounded n k t (thread ∷ threads) (suc i) each = charge_bounded n k (t + 1) threads i (λ j. each (suc j))
 
 within_pass : (n : ℕ) (k : Plain) → IsWithin n k → IsWithin n (pass k)
-within_pass n k within = record { thread = by; partition = within.partition } where
+within_pass n k within = record { thread = by; partition = within.partition; ceilings = within.ceilings } where
   by : (t : ℕ) → IsBounded n (nth no_thread (charge_from k 1 k.threads) t)
   by zero = none_bounded n
   by (suc i) = charge_bounded n k 1 k.threads i (λ j. within.thread (suc j))
@@ -589,10 +741,19 @@ none_memory (suc m) (suc i) = none_memory m i
 
 -- a scenario's first state is within the limits
 pub within_opening : (s : Scenario) (n : ℕ) → AllByRecursion (IsInitWithin n) s.inits → IsWithin n (opening s)
-within_opening s n are = record { thread = by; partition = at } where
+within_opening s n are = record { thread = by; partition = at; ceilings = λ i. none_ceiled i } where
   by : (t : ℕ) → IsBounded n (nth no_thread (places 64 (map (begun s) s.inits)) t)
   by zero = none_bounded n
   by (suc i) = places_bounded n s 64 s.inits i are
+
+  none_in : (m i : ℕ) → AreLow (get_or (replicate m no_semaphore) i no_semaphore).ceilings
+  none_in zero i = none_low
+  none_in (suc m) zero = none_low
+  none_in (suc m) (suc i) = none_in m i
+
+  none_ceiled : (i : ℕ) → AreLow (nth no_semaphore (replicate 64 no_semaphore) i).ceilings
+  none_ceiled zero = none_low
+  none_ceiled (suc i) = none_in 64 i
 
   at : (i : ℕ) → IsMemory (nth no_partition (replicate 64 no_partition) i)
   at zero = record { memory = omega arith; buffers = tt }
