@@ -1,0 +1,394 @@
+"""Draws a history as SVG: bands of ticks below each other, each with a row for every processor and every task.
+
+The present tick N stands at one place of a band, and what a processor does through the tick N + 1 stands between N and
+N + 1. Directives take no time: those of the present tick N stand in their order from that place on, so that the last
+present tick has some room behind it.
+"""
+from bisect import bisect_left
+from typing import NamedTuple
+
+from pictures import history as told
+from pictures.svg import RED, colour_of, element, escape, patterns_of, show, title, width_of
+
+WIDTH = 1_232           # of the widest drawing, so that it fits a window of 1,280
+LEAST_WIDTH = 460
+LEAST_TICK, GREATEST_TICK = 14, 48      # the width of a tick
+LABEL, SMALL = 11, 10   # sizes of letters
+BAR = 15                # the height of a block
+MARK = 7                # the width of a mark's place
+LANE = 10               # the height of a line of marks
+GREATEST_LANES = 40
+GAP = 6                 # between rows
+HEADING = 18
+AXIS = 20
+BETWEEN_BANDS = 22
+
+STYLE = ('text{font-family:"DejaVu Sans Mono","Liberation Mono",Menlo,Consolas,monospace;font-size:11px;fill:#111}'
+         '.s{font-size:10px}.h{fill:#555}.b{font-size:10px;text-anchor:middle;stroke:#fff;stroke-width:2.5px;'
+         'paint-order:stroke;stroke-linejoin:round}.m{pointer-events:all}')
+
+# Of each kind of mark: its shape, in a place of MARK by LANE, and how it is painted.
+MARKS = {
+    told.DONE: ('M3.5 1.5V8.5', dict(stroke='#111', stroke_width=2, fill='none')),
+    told.WAITS: ('M1 5a2.5 2.5 0 1 0 5 0a2.5 2.5 0 1 0 -5 0Z', dict(stroke='#111', stroke_width=1.2, fill='#fff')),
+    told.BACK: ('M0.7 5a2.8 2.8 0 1 0 5.6 0a2.8 2.8 0 1 0 -5.6 0Z', dict(fill='#111')),
+    told.REFUSED: ('M0.8 2.2L6.2 7.8M6.2 2.2L0.8 7.8', dict(stroke=RED, stroke_width=2.2, fill='none')),
+    told.EXIT: ('M0.8 2.2H6.2V7.8H0.8Z', dict(fill='#111')),
+    told.JOB: ('M1 0.5V9.5M1 1H6L4.2 3L6 5H1', dict(stroke='#111', stroke_width=1.2, fill='#fff')),
+    told.LATE: ('M1 0.5V9.5M1 1H6.5V5.5H1Z', dict(stroke=RED, stroke_width=1.6, fill=RED)),
+}
+MARK_WORDS = {
+    told.DONE: 'a directive is done',
+    told.WAITS: 'begins to wait',
+    told.BACK: 'returns from its wait',
+    told.REFUSED: 'refused, timed out or broken off',
+    told.EXIT: 'exits',
+    told.JOB: 'a job ends in time; waits',
+    told.LATE: 'a late job ends',
+}
+
+
+class Row(NamedTuple):
+    """A row of each band: a heading, or that of a processor or a task with its number."""
+    kind: str
+    number: int
+    text: str
+
+
+class Band(NamedTuple):
+    """Ticks that are drawn beside each other: from one present tick to another, and where they stand."""
+    first: int
+    last: int
+    left: float
+    tick: float
+    room: float     # behind the last present tick
+    closes: bool    # whether it is the last band
+
+    def x(self, tick):
+        """Where a present tick stands."""
+        return self.left + (tick - self.first) * self.tick
+
+    def right(self):
+        """Where the band ends."""
+        return self.x(self.last) + self.room
+
+    def clip(self, start, end):
+        """The part of some ticks that is in the band, or None."""
+        start, end = max(start, self.first), min(end, self.last)
+        return (start, end) if start < end else None
+
+
+class Drawing:
+    """An SVG of a history. `text` has it once `draw` was called; `width` and `height` are its size."""
+
+    def __init__(self, history):
+        self.history = history
+        self.rows = rows_of(history)
+        self.left = 64 if history.scenario is None else 152
+        self.stretches = grouped(history.stretches, lambda stretch: stretch.processor)
+        self.turns = grouped(history.stretches, lambda stretch: stretch.task)
+        self.waits = grouped(history.waits, lambda wait: wait.task)
+        self.marks = grouped(history.marks, lambda mark: mark.task)
+        self.letters = {}       # of the words of waits those that were drawn as a letter
+        self.width = self.height = 0
+
+    def draw(self):
+        """The SVG's text."""
+        parts, y = [], 4
+        for band in bands_of(self.history, self.left, self.final_room()):
+            self.width = max(self.width, band.right() + 6)
+            drawn, height = self.band(band, y)
+            parts.append(drawn)
+            y += height + BETWEEN_BANDS
+        self.width = max(self.width, LEAST_WIDTH)
+        drawn, height = legend(self, y)
+        self.height = y + height
+        tasks = sorted({row.number for row in self.rows if row.kind == 'task'} | {1, 2})
+        defs = element('defs', ''.join(patterns_of(task) for task in tasks))
+        return element('svg', element('style', STYLE) + defs + element('rect', width='100%', height='100%', fill='#fff')
+                       + ''.join(parts) + drawn, xmlns='http://www.w3.org/2000/svg', width=show(float(self.width)),
+                       height=show(float(self.height)), role='img', aria_label='a schedule')
+
+    def final_room(self):
+        """The room for the directives of the last present tick: up to four lines of marks, where that isn't too wide."""
+        last = self.history.last
+        most = max((sum(mark.tick == last for mark in marks) for marks in self.marks.values()), default=0)
+        return min(max(26, -(-most // 4) * MARK + 6), 300)
+
+    def band(self, band, top):
+        """A band at a height: its text and its height."""
+        placed = [(row, *self.lanes(row, band)) for row in self.rows]
+        y, parts = top + AXIS, []
+        for row, lanes, per_lane in placed:
+            if row.kind == 'heading':
+                parts.append(element('text', escape(row.text), x=0, y=y + 13, class_='s h'))
+                y += HEADING
+            elif row.kind == 'processor':
+                parts.append(self.processor_row(row, band, y))
+                y += BAR + GAP
+            else:
+                parts.append(self.task_row(row, band, y, lanes, per_lane))
+                y += lanes * LANE + BAR + GAP
+        return axis(band, top, y, self.history.cut) + ''.join(parts), y - top
+
+    def lanes(self, row, band):
+        """How many lines of marks a row has in a band, and how many marks of one tick stand in a line, for each tick."""
+        if row.kind != 'task':
+            return 0, {}
+        counts = {}
+        for mark in self.marks_in(row.number, band):
+            counts[mark.tick] = counts.get(mark.tick, 0) + 1
+        ticks, most, per_lane = list(counts), 1, {}
+        for at, tick in enumerate(ticks):
+            end = band.x(ticks[at + 1]) if at + 1 < len(ticks) else band.right()
+            fit = max(1, int((end - band.x(tick)) / MARK))
+            per_lane[tick] = (max(fit, -(-counts[tick] // GREATEST_LANES)), end - band.x(tick))
+            most = max(most, -(-counts[tick] // per_lane[tick][0]))
+        return most, per_lane
+
+    def marks_in(self, task, band):
+        """The marks of a task in a band. Those at its end are in the next band, if there is one."""
+        marks = self.marks.get(task, [])
+        ticks = [mark.tick for mark in marks] if len(marks) < 32 else None
+        if ticks is None:
+            ticks = self.ticks_of(task)
+        end = band.last + 1 if band.closes else band.last
+        return marks[bisect_left(ticks, band.first):bisect_left(ticks, end)]
+
+    def ticks_of(self, task):
+        """The ticks of a task's marks."""
+        cache = self.__dict__.setdefault('_ticks', {})
+        if task not in cache:
+            cache[task] = [mark.tick for mark in self.marks[task]]
+        return cache[task]
+
+    # Rows
+
+    def processor_row(self, row, band, y):
+        """The row of a processor: what it does, tick by tick."""
+        parts = [element('text', f'p{row.number}', x=8, y=y + 12),
+                 element('path', d=f'M{show(band.left)} {y + BAR}H{show(float(band.x(band.last)))}', stroke='#ccc')]
+        for stretch in within(self.stretches.get(row.number, []), band):
+            names = self.names(stretch.task)
+            labels = [f'{stretch.task} {names[-1]}'] if names else []
+            helper = stretch.helper()
+            if helper is not None:
+                labels = [f'{stretch.task} for {helper}']
+            parts.append(self.block(stretch, band, y, labels + [str(stretch.task)], 'block'))
+        return element('g', ''.join(parts))
+
+    def task_row(self, row, band, y, lanes, per_lane):
+        """The row of a task: its marks, and below them what it does."""
+        parts = [self.task_label(row.number, y + lanes * LANE)]
+        y += lanes * LANE
+        for start, end in self.history.lives.get(row.number, []):
+            if start <= band.last and end >= band.first:
+                from_, to = band.x(max(start, band.first)), band.x(min(end, band.last))
+                parts.append(element('path', d=f'M{show(from_)} {y + 7.5}H{show(to)}', stroke='#888'))
+        turns = within(self.turns.get(row.number, []), band)
+        for wait in within(self.waits.get(row.number, []), band):
+            parts += self.wait(wait, turns, band, y)
+        parts += [self.block(turn, band, y, [f'p{turn.processor}'], 'turn') for turn in turns]
+        parts += self.row_marks(row.number, band, y - lanes * LANE, per_lane)
+        return element('g', ''.join(parts))
+
+    def block(self, stretch, band, y, labels, class_):
+        """A block of a stretch: coloured where the task runs, hatched where it spins, with the border of its helper."""
+        start, end = band.clip(stretch.start, stretch.end)
+        x, width = band.x(start), (end - start) * band.tick
+        what = 'spins' if stretch.spins else 'runs'
+        spoken = f'task {stretch.task} {what} on processor {stretch.processor}, from tick {stretch.start} to {stretch.end}'
+        helper = stretch.helper()
+        if helper is not None:
+            spoken += f', in place of task {helper}' + ('' if stretch.foreign else ', or it took the processor from it')
+        elif stretch.foreign:
+            spoken += ', which is of another cluster'
+        fill = f'url(#{"spin" if stretch.spins else "run"}-{stretch.task})'
+        drawn = element('rect', title(spoken), x=x, y=y, width=float(width), height=BAR, fill=fill, stroke='#222',
+                        stroke_width=0.8, class_=class_, data_processor=stretch.processor, data_task=stretch.task,
+                        data_from=start, data_to=end)
+        if stretch.foreign or helper is not None:
+            dash = {} if helper is not None and stretch.foreign else {'stroke_dasharray': '5 3'}
+            drawn += element('rect', x=x + 2, y=y + 2, width=max(width - 4.0, 1.0), height=BAR - 4, fill='none',
+                             stroke='#333' if helper is None else colour_of(helper), stroke_width=3,
+                             pointer_events='none', **dash)
+        return drawn + fitting(labels, x, width, y)
+
+    def wait(self, wait, turns, band, y):
+        """The bars of a wait, between the blocks in which its task spins."""
+        parts, at = [], max(wait.start, band.first)
+        stop = min(wait.end, band.last)
+        blocks = [(turn.start, turn.end) for turn in turns if turn.end > at and turn.start < stop]
+        for start, end in blocks + [(stop, stop)]:
+            if start > at:
+                parts.append(self.wait_bar(wait, band, y, at, min(start, stop)))
+            at = max(at, end)
+        return parts
+
+    def wait_bar(self, wait, band, y, start, end):
+        """A bar of a wait, with its word or, where it is too narrow, the word's first letter."""
+        x, width = band.x(start), (end - start) * band.tick
+        spoken = f'task {wait.task} waits in {wait.place[0]}:{wait.place[1]} {wait.word}, from tick {wait.start} to {wait.end}'
+        drawn = element('rect', title(spoken), x=x, y=y + 1, width=float(width), height=BAR - 2, fill='#f4f4f4',
+                        stroke='#777', stroke_width=0.8, class_='wait')
+        if width_of(wait.word, SMALL) + 4 > width:
+            self.letters[wait.word[0]] = wait.word
+        return drawn + fitting([wait.word, wait.word[0]], x, width, y)
+
+    def row_marks(self, task, band, y, per_lane):
+        """The marks of a task's directives."""
+        parts, tick, count = [], None, 0
+        for mark in self.marks_in(task, band):
+            count = count + 1 if mark.tick == tick else 0
+            tick = mark.tick
+            fit, room = per_lane[tick]
+            x = band.x(tick) + 1 + (count % fit) * min(MARK, room / fit)
+            parts.append(mark_at(mark.kind, x, y + count // fit * LANE, title(mark.text)))
+        return parts
+
+    def names(self, task):
+        """The names of the tasks that had an index, as the scenario tells."""
+        return [maker.name for _, maker in self.history.makers.get(task, [])]
+
+    def task_label(self, task, y):
+        """The label of a task's row: its colour and number, and its name and priority, as the scenario tells."""
+        makers = [maker for _, maker in self.history.makers.get(task, [])]
+        drawn = element('rect', x=8, y=y, width=24, height=BAR, fill=f'url(#run-{task})', stroke='#222', stroke_width=0.8)
+        drawn += fitting([str(task)], 8, 24, y)
+        if makers:
+            name = makers[-1].name + ('+' if len(makers) > 1 else '')
+            spoken = '; '.join(f'from tick {since}: {maker.name}, priority {maker.priority}, cluster {maker.home}'
+                               for since, maker in self.history.makers[task])
+            drawn += element('text', title(f'task {task}, {spoken}') + escape(name), x=40, y=y + 12)
+            drawn += element('text', escape(str(makers[-1].priority)), x=80 + 4 * 8, y=y + 12, text_anchor='end')
+        return drawn
+
+
+def grouped(items, key):
+    """Items by their key, in their order."""
+    groups = {}
+    for item in items:
+        groups.setdefault(key(item), []).append(item)
+    return groups
+
+
+def within(items, band):
+    """Those of some waits or stretches of which a part is in the band, by their beginning."""
+    return sorted((item for item in items if band.clip(item.start, item.end)), key=lambda item: item.start)
+
+
+def rows_of(history):
+    """The rows of each band: the processors, and below them the tasks; by clusters, where these are known."""
+    scenario, tasks = history.scenario, sorted(history.lives)
+    rows, processor = [], 0
+    if scenario is None or len(scenario.clusters) == 1:
+        rows = [Row('heading', 0, 'processors')]
+        rows += [Row('processor', number, '') for number in range(history.processors)]
+        heading = 'tasks' if scenario is None else 'tasks: number, name, priority'
+        return rows + [Row('heading', 0, heading)] + [Row('task', number, '') for number in tasks]
+    for cluster, count in enumerate(scenario.clusters):
+        rows.append(Row('heading', cluster, f'processors of cluster {cluster}'))
+        rows += [Row('processor', number, '') for number in range(processor, processor + count)]
+        processor += count
+    homes = {number: history.makers[number][-1][1].home if number in history.makers else None for number in tasks}
+    for home in list(range(len(scenario.clusters))) + [None]:
+        own = [number for number in tasks if homes[number] == home]
+        where = 'of no known cluster' if home is None else f'of cluster {home}: number, name, priority'
+        rows += [Row('heading', 0, f'tasks {where}')] if own else []
+        rows += [Row('task', number, '') for number in own]
+    return rows
+
+
+def bands_of(history, left, room):
+    """The bands of a history's window: as few as fit the width, each of a multiple of ten ticks where there are more."""
+    ticks = history.last - history.first
+    fit = int((WIDTH - left - room - 6) / LEAST_TICK)
+    count = max(1, -(-ticks // fit)) if ticks <= fit else -(-ticks // (fit // 10 * 10))
+    each = max(1, ticks) if count == 1 else -(-(-(-ticks // count)) // 10) * 10
+    tick = min(GREATEST_TICK, int((WIDTH - left - room - 6) / each))
+    firsts = list(range(history.first, history.last, each)) or [history.first]
+    return [Band(first, min(first + each, history.last), left, tick, room if first == firsts[-1] else 0,
+                 first == firsts[-1]) for first in firsts]
+
+
+def axis(band, top, bottom, cut):
+    """The ticks along the top of a band, with lines down to its bottom; the end of the window is a thick one."""
+    widest = width_of(str(band.last), SMALL) + 8
+    step = next(step for step in (1, 2, 5, 10, 20, 50, 100) if step * band.tick >= widest or step == 100)
+    parts, free = [], 0.0
+    for tick in range(band.first, band.last + 1):
+        x, is_end = band.x(tick), band.closes and tick == band.last
+        labelled = tick % step == 0 or tick == band.first or is_end
+        near_end = band.closes and not is_end and x + widest > band.x(band.last) and tick != band.first
+        shown = labelled and x >= free and not near_end
+        if shown:
+            free = x + widest
+            parts.append(element('text', str(tick), x=x, y=top + 10, class_='s', text_anchor='middle'))
+        stroke = dict(stroke='#222', stroke_width=1.6) if is_end else dict(stroke='#ccc' if shown else '#eee')
+        parts.append(element('path', d=f'M{show(float(x))} {top + (13 if shown else 16)}V{bottom}', **stroke))
+    parts.append(element('text', 'tick', x=8, y=top + 10, class_='s h'))
+    return element('g', ''.join(parts))
+
+
+def fitting(labels, x, width, y):
+    """The first of some labels that fits a block, in its middle; nothing where none does."""
+    for label in labels:
+        if width_of(label, SMALL) + 1 <= width:
+            return element('text', escape(label), x=x + width / 2, y=y + 11.5, class_='b', pointer_events='none')
+    return ''
+
+
+def mark_at(kind, x, y, content=''):
+    """A mark of a kind."""
+    shape, paint = MARKS[kind]
+    return element('path', content, d=shape, transform=f'translate({show(float(x))} {show(float(y))})', class_=f'm {kind}', **paint)
+
+
+# The legend
+
+def legend(drawing, y):
+    """What the signs mean that this drawing has: its text and its height."""
+    x, parts, top = 8, [], y
+    for sample, text in legend_items(drawing):
+        width = 30 + width_of(text, LABEL) + 18
+        if x + width > drawing.width and x > 8:
+            x, y = 8, y + 20
+        parts.append(sample(x, y) + element('text', escape(text), x=x + 30, y=y + 12))
+        x += width
+    return element('g', ''.join(parts), class_='legend'), y + 24 - top
+
+
+def legend_items(drawing):
+    """The samples of the signs that a drawing has, and their words."""
+    stretches, items = drawing.history.stretches, []
+    sample = lambda fill, label, border=None, dash='': lambda x, y: box(x, y, fill, label, border, dash)
+    if any(not stretch.spins for stretch in stretches):
+        items.append((sample('url(#run-1)', '1'), 'task 1 runs'))
+    if any(stretch.spins for stretch in stretches):
+        items.append((sample('url(#spin-2)', '2'), 'task 2 spins'))
+    if any(stretch.helper() is not None and stretch.foreign for stretch in stretches):
+        items.append((sample('url(#run-1)', '1', colour_of(2)), 'task 1 runs in place of task 2, which spins'))
+    if any(stretch.helper() is not None and not stretch.foreign for stretch in stretches):
+        items.append((sample('url(#run-1)', '1', colour_of(2), '5 3'),
+                      'task 1 runs in place of task 2, which spins, or took its processor'))
+    if any(stretch.helper() is None and stretch.foreign for stretch in stretches):
+        items.append((sample('url(#run-1)', '1', '#333', '5 3'), 'task 1 runs in place of one that is not told'))
+    items += [(sample('#f4f4f4', letter), f'waits in {word}') for letter, word in sorted(drawing.letters.items())]
+    if drawing.history.lives:
+        items.append((line_sample, 'ready, suspended or dormant: which is not told'))
+    kinds = {mark.kind for mark in drawing.history.marks}
+    return items + [(lambda x, y, kind=kind: mark_at(kind, x + 9, y + 3), MARK_WORDS[kind]) for kind in MARKS if kind in kinds]
+
+
+def box(x, y, fill, label, border, dash):
+    """A block of the legend."""
+    drawn = element('rect', x=x, y=y, width=24, height=BAR, fill=fill, stroke='#222', stroke_width=0.8)
+    if border:
+        drawn += element('rect', x=x + 2, y=y + 2, width=20, height=BAR - 4, fill='none', stroke=border, stroke_width=3,
+                         **({'stroke_dasharray': dash} if dash else {}))
+    return drawn + fitting([label], x, 24, y)
+
+
+def line_sample(x, y):
+    """The line of a task that neither runs nor waits."""
+    return element('path', d=f'M{x} {y + 7.5}H{x + 24}', stroke='#888')
