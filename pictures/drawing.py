@@ -4,7 +4,7 @@ The present tick N stands at one place of a band, and what a processor does thro
 N + 1. Directives take no time: those of the present tick N stand in their order from that place on, so that the last
 present tick has some room behind it.
 """
-from bisect import bisect_left
+from bisect import bisect_left, bisect_right
 from typing import NamedTuple
 
 from pictures import history as told
@@ -84,7 +84,7 @@ class Drawing:
     def __init__(self, history):
         self.history = history
         self.rows = rows_of(history)
-        self.left = 64 if history.scenario is None else 152
+        self.left = 64 if history.scenario is None else 162
         self.stretches = grouped(history.stretches, lambda stretch: stretch.processor)
         self.turns = grouped(history.stretches, lambda stretch: stretch.task)
         self.waits = grouped(history.waits, lambda wait: wait.task)
@@ -100,11 +100,13 @@ class Drawing:
             drawn, height = self.band(band, y)
             parts.append(drawn)
             y += height + BETWEEN_BANDS
-        self.width = max(self.width, LEAST_WIDTH)
-        drawn, height = legend(self, y)
+        items = legend_items(self)
+        self.width = max([self.width, LEAST_WIDTH] + [8 + legend_width(text) for _, text in items])
+        drawn, height = legend(items, self.width, y)
         self.height = y + height
         tasks = sorted({row.number for row in self.rows if row.kind == 'task'} | {1, 2})
-        defs = element('defs', ''.join(patterns_of(task) for task in tasks))
+        defs = element('defs', ''.join(patterns_of(task) for task in tasks) + ''.join(
+            element('path', d=shape, id=kind, class_='m', **paint) for kind, (shape, paint) in MARKS.items()))
         return element('svg', element('style', STYLE) + defs + element('rect', width='100%', height='100%', fill='#fff')
                        + ''.join(parts) + drawn, xmlns='http://www.w3.org/2000/svg', width=show(float(self.width)),
                        height=show(float(self.height)), role='img', aria_label='a schedule')
@@ -148,19 +150,9 @@ class Drawing:
 
     def marks_in(self, task, band):
         """The marks of a task in a band. Those at its end are in the next band, if there is one."""
-        marks = self.marks.get(task, [])
-        ticks = [mark.tick for mark in marks] if len(marks) < 32 else None
-        if ticks is None:
-            ticks = self.ticks_of(task)
-        end = band.last + 1 if band.closes else band.last
-        return marks[bisect_left(ticks, band.first):bisect_left(ticks, end)]
-
-    def ticks_of(self, task):
-        """The ticks of a task's marks."""
-        cache = self.__dict__.setdefault('_ticks', {})
-        if task not in cache:
-            cache[task] = [mark.tick for mark in self.marks[task]]
-        return cache[task]
+        marks, end = self.marks.get(task, []), band.last + 1 if band.closes else band.last
+        tick = lambda mark: mark.tick
+        return marks[bisect_left(marks, band.first, key=tick):bisect_left(marks, end, key=tick)]
 
     # Rows
 
@@ -260,7 +252,7 @@ class Drawing:
             spoken = '; '.join(f'from tick {since}: {maker.name}, priority {maker.priority}, cluster {maker.home}'
                                for since, maker in self.history.makers[task])
             drawn += element('text', title(f'task {task}, {spoken}') + escape(name), x=40, y=y + 12)
-            drawn += element('text', escape(str(makers[-1].priority)), x=80 + 4 * 8, y=y + 12, text_anchor='end')
+            drawn += element('text', f'priority {makers[-1].priority}', x=80, y=y + 12, class_='s h')
         return drawn
 
 
@@ -273,8 +265,9 @@ def grouped(items, key):
 
 
 def within(items, band):
-    """Those of some waits or stretches of which a part is in the band, by their beginning."""
-    return sorted((item for item in items if band.clip(item.start, item.end)), key=lambda item: item.start)
+    """Those of the waits or stretches of a task or a processor, which follow each other, of which a part is in the band."""
+    first = bisect_right(items, band.first, key=lambda item: item.end)
+    return items[first:bisect_left(items, band.last, key=lambda item: item.start)]
 
 
 def rows_of(history):
@@ -284,8 +277,7 @@ def rows_of(history):
     if scenario is None or len(scenario.clusters) == 1:
         rows = [Row('heading', 0, 'processors')]
         rows += [Row('processor', number, '') for number in range(history.processors)]
-        heading = 'tasks' if scenario is None else 'tasks: number, name, priority'
-        return rows + [Row('heading', 0, heading)] + [Row('task', number, '') for number in tasks]
+        return rows + [Row('heading', 0, 'tasks')] + [Row('task', number, '') for number in tasks]
     for cluster, count in enumerate(scenario.clusters):
         rows.append(Row('heading', cluster, f'processors of cluster {cluster}'))
         rows += [Row('processor', number, '') for number in range(processor, processor + count)]
@@ -293,7 +285,7 @@ def rows_of(history):
     homes = {number: history.makers[number][-1][1].home if number in history.makers else None for number in tasks}
     for home in list(range(len(scenario.clusters))) + [None]:
         own = [number for number in tasks if homes[number] == home]
-        where = 'of no known cluster' if home is None else f'of cluster {home}: number, name, priority'
+        where = 'of no known cluster' if home is None else f'of cluster {home}'
         rows += [Row('heading', 0, f'tasks {where}')] if own else []
         rows += [Row('task', number, '') for number in own]
     return rows
@@ -326,7 +318,7 @@ def axis(band, top, bottom, cut):
             parts.append(element('text', str(tick), x=x, y=top + 10, class_='s', text_anchor='middle'))
         stroke = dict(stroke='#222', stroke_width=1.6) if is_end else dict(stroke='#ccc' if shown else '#eee')
         parts.append(element('path', d=f'M{show(float(x))} {top + (13 if shown else 16)}V{bottom}', **stroke))
-    parts.append(element('text', 'tick', x=8, y=top + 10, class_='s h'))
+    parts.append(element('text', 'tick', x=0, y=top + 10, class_='s h'))
     return element('g', ''.join(parts))
 
 
@@ -334,27 +326,30 @@ def fitting(labels, x, width, y):
     """The first of some labels that fits a block, in its middle; nothing where none does."""
     for label in labels:
         if width_of(label, SMALL) + 1 <= width:
-            return element('text', escape(label), x=x + width / 2, y=y + 11.5, class_='b', pointer_events='none')
+            return element('text', escape(label), x=x + width / 2, y=y + 11, class_='b', pointer_events='none')
     return ''
 
 
 def mark_at(kind, x, y, content=''):
     """A mark of a kind."""
-    shape, paint = MARKS[kind]
-    return element('path', content, d=shape, transform=f'translate({show(float(x))} {show(float(y))})', class_=f'm {kind}', **paint)
+    return f'<use href="#{kind}" x="{show(float(x))}" y="{show(float(y))}">{content}</use>'
 
 
 # The legend
 
-def legend(drawing, y):
-    """What the signs mean that this drawing has: its text and its height."""
+def legend_width(text):
+    """The width of an item of the legend."""
+    return 30 + width_of(text, LABEL) + 18
+
+
+def legend(items, wide, y):
+    """What the signs mean, in lines that are so wide at most: its text and its height."""
     x, parts, top = 8, [], y
-    for sample, text in legend_items(drawing):
-        width = 30 + width_of(text, LABEL) + 18
-        if x + width > drawing.width and x > 8:
+    for sample, text in items:
+        if x + legend_width(text) > wide and x > 8:
             x, y = 8, y + 20
         parts.append(sample(x, y) + element('text', escape(text), x=x + 30, y=y + 12))
-        x += width
+        x += legend_width(text)
     return element('g', ''.join(parts), class_='legend'), y + 24 - top
 
 
@@ -374,7 +369,7 @@ def legend_items(drawing):
     if any(stretch.helper() is None and stretch.foreign for stretch in stretches):
         items.append((sample('url(#run-1)', '1', '#333', '5 3'), 'task 1 runs in place of one that is not told'))
     items += [(sample('#f4f4f4', letter), f'waits in {word}') for letter, word in sorted(drawing.letters.items())]
-    if drawing.history.lives:
+    if any(start < end for lives in drawing.history.lives.values() for start, end in lives):
         items.append((line_sample, 'ready, suspended or dormant: which is not told'))
     kinds = {mark.kind for mark in drawing.history.marks}
     return items + [(lambda x, y, kind=kind: mark_at(kind, x + 9, y + 3), MARK_WORDS[kind]) for kind in MARKS if kind in kinds]

@@ -2,13 +2,14 @@
 
 A history is fed with the entries of a schedule in their order. It keeps what falls into the window of ticks that is
 drawn, and of the rest only how things stand, so that its size doesn't grow with the schedule. It refuses entries that
-contradict each other, since no picture could show them: a task that acts while it waits, or that runs twice at once.
+contradict each other, since no picture could show them: a task that acts while it waits, or that is on two processors at once.
 """
 from typing import NamedTuple
 
 DEFAULT_TICKS = 2_000
 GREATEST_MARKS = 20_000
 SUCCESSES = (0, 1)
+SPINS_IN = 'sem.obtain'   # the only directive in which a task that waits may spin
 
 # The kinds of marks.
 DONE, WAITS, BACK, REFUSED, EXIT, JOB, LATE = 'done', 'waits', 'back', 'refused', 'exit', 'job', 'late'
@@ -57,6 +58,18 @@ class Mark(NamedTuple):
     text: str
 
 
+class Directive(NamedTuple):
+    """What the line of a directive's entry says; `form` is its word `done`, `waits` or `back`."""
+    processor: int
+    task: int
+    place: tuple    # body and line
+    word: str
+    form: str
+    status: int
+    out: int
+    text: str
+
+
 class Task:
     """How a task stands: since when it is known, its wait, whether it has ended, and with what it was made."""
     __slots__ = ('number', 'since', 'wait', 'exited', 'maker')
@@ -86,7 +99,7 @@ class History:
         self._tasks = {}
         self._greatest_processor = -1
         self._views = ''            # the words of the last tick
-        self._changed = True        # whether there was an entry since
+        self._changed = True        # whether a wait or a task began or ended since
         self._open = []             # of each processor what it does since when: (key, start)
         self._hosts = {}            # of each processor the wait of the task that was seen to keep it last
         if scenario is not None:
@@ -103,6 +116,7 @@ class History:
 
     def _begin(self, number, since, maker=None):
         """A task that is there from a tick on; another one that had the index is there no longer."""
+        self._changed = True
         if number in self._tasks:
             self._finish(self._tasks[number])
         task = self._tasks[number] = Task(number, since, maker)
@@ -130,55 +144,61 @@ class History:
         """Ends the wait of a task now, and keeps it where it falls into the window."""
         wait, task.wait = task.wait, None
         wait.end = self.now
+        self._changed = True
         if wait.start < self.last and wait.end > self.first:
             self.waits.append(wait)
 
     # Directives
 
-    def act(self, processor, number, body, line, word, form, status, out, text):
-        """An entry of a directive; `form` is its word `done`, `waits` or `back`."""
-        if self.processors is not None and processor >= self.processors:
-            raise Contradiction(f'there is no processor {processor}')
-        self._greatest_processor = max(self._greatest_processor, processor)
-        task, place, operands = self._task(number), (body, line), self._operands(body, line, word)
+    def act(self, directive):
+        """An entry of a directive."""
+        if self.processors is not None and directive.processor >= self.processors:
+            raise Contradiction(f'there is no processor {directive.processor}')
+        self._greatest_processor = max(self._greatest_processor, directive.processor)
+        task = self._tasks.get(directive.task) or self._begin(directive.task, 0)
+        operands = self._operands(directive) if self.scenario is not None else None
         if task.exited:
-            raise Contradiction(f'task {number} has exited')
-        self._changed = True
-        if form == 'back':
-            self._return(task, place, word)
+            raise Contradiction(f'task {task.number} has exited')
+        if directive.form == 'back':
+            self._return(task, directive)
         elif task.wait is not None:
-            raise Contradiction(f'task {number} waits since tick {task.wait.start}, and has not returned')
-        elif form == 'waits':
-            self._wait(task, place, word, processor)
-        elif word == 'task.exit':
+            raise Contradiction(f'task {task.number} waits since tick {task.wait.start}, and has not returned')
+        elif directive.form == 'waits':
+            self._wait(task, directive)
+        elif directive.word == 'task.exit':
             self._keep_life(task)
-            task.exited = True
-        elif word == 'task.create' and status == 0:
-            self._create(task, out, operands)
-        self._mark(number, kind_of(word, form, status, operands), text)
+            task.exited = self._changed = True
+        elif directive.word == 'task.create' and directive.status == 0:
+            self._create(task, directive.out, operands)
+        self.directives += 1
+        if self.first <= self.now <= self.last:
+            self._mark(directive, operands)
 
-    def _operands(self, body, line, word):
-        """The words of the directive's line in the scenario, if there is one, which must be that directive."""
-        if self.scenario is None:
-            return None
+    def _operands(self, directive):
+        """The words of the directive's line in the scenario, which must be that directive."""
+        body, line = directive.place
         words = self.scenario.words_at(body, line)
-        if not words or words[0] != word:
+        if not words or words[0] != directive.word:
             found = f'is {words[0][:20]}' if words else 'is missing'
-            raise Contradiction(f'{word} isn\'t in the scenario: line {line} of the body {body} {found} there')
+            raise Contradiction(f"{directive.word} isn't in the scenario: line {line} of the body {body} {found} there")
         return words
 
-    def _return(self, task, place, word):
+    def _return(self, task, directive):
         """A task returns from the directive for which it waited."""
         wait = task.wait
         if wait is None:
             raise Contradiction(f'task {task.number} returns from a directive, and waits for none')
-        if (wait.place, wait.word) != (place, word):
+        if wait.place != directive.place or wait.word != directive.word:
             raise Contradiction(f'task {task.number} waits in {wait.place[0]}:{wait.place[1]} {wait.word}')
         self._end_wait(task)
 
-    def _wait(self, task, place, word, processor):
+    def _wait(self, task, directive):
         """A task begins to wait. Its processor may be kept by it, if it spins."""
-        task.wait = wait = Wait(task.number, word, place, self.now, processor)
+        self._changed = True
+        processor = directive.processor
+        task.wait = wait = Wait(task.number, directive.word, directive.place, self.now, processor)
+        if directive.word != SPINS_IN:
+            return
         host = self._host(processor)
         if not self._is_foreign(task, processor) and (host is None or not host.spun):
             self._hosts[processor] = wait
@@ -194,13 +214,11 @@ class History:
             maker = creator.maker._replace(name=name, priority=int(priority, 16 if priority[:2] == '0x' else 10))
         self._begin(number, self.now, maker)
 
-    def _mark(self, number, kind, text):
-        """Keeps a directive's entry where it falls into the window, up to the greatest number of marks."""
-        self.directives += 1
-        if self.first <= self.now <= self.last:
-            self.directives_in_window += 1
-            if len(self.marks) < GREATEST_MARKS:
-                self.marks.append(Mark(number, self.now, kind, text))
+    def _mark(self, directive, operands):
+        """Keeps a directive's entry, up to the greatest number of marks."""
+        self.directives_in_window += 1
+        if len(self.marks) < GREATEST_MARKS:
+            self.marks.append(Mark(directive.task, self.now, kind_of(directive, operands), directive.text))
 
     # Ticks
 
@@ -282,13 +300,12 @@ class History:
     def _host(self, processor):
         """The wait of the task that was seen last to keep a processor, if it still goes on there."""
         wait = self._hosts.get(processor)
-        kept = wait is not None and wait.end is None and wait.processor == processor
-        return wait if kept and wait.word == 'sem.obtain' else None
+        return wait if wait is not None and wait.end is None and wait.processor == processor else None
 
     def _only_host(self, processor, spinning):
         """The wait for a semaphore of the only task of a processor's cluster that can spin there, or None."""
         waits = [task.wait for task in self._tasks.values()
-                 if task.wait is not None and task.wait.word == 'sem.obtain' and task.number not in spinning
+                 if task.wait is not None and task.wait.word == SPINS_IN and task.number not in spinning
                  and task.maker is not None and not self._is_foreign(task, processor)]
         return waits[0] if len(waits) == 1 else None
 
@@ -306,8 +323,9 @@ class History:
             self.processors = self._greatest_processor + 1
 
 
-def kind_of(word, form, status, operands):
+def kind_of(directive, operands):
     """The kind of a directive's mark. Without its operands a question how a period stands isn't told from a job's end."""
+    word, form, status = directive.word, directive.form, directive.status
     if word == 'period.period' and not (operands and operands[2] in ('0', '0x00000000')):
         if form == 'waits':
             return JOB

@@ -6,9 +6,11 @@ of docs/schedule-format.md; in another version lines of other kinds are counted 
 """
 import re
 
-from pictures.history import Contradiction
+from pictures.history import Contradiction, Directive
 
+BLOCK = 1 << 20          # how many bytes are read at once
 LONGEST_LINE = 1_000
+DIRECTIVES_KEPT = 50_000
 UNKNOWN_LINES_KEPT = 5
 
 HEADER = re.compile(r'schedule ([1-9][0-9]{0,3})')
@@ -31,10 +33,25 @@ class ScheduleFault(Exception):
 def read_schedule(source, history):
     """Feeds a history with the schedule that a source of bytes has; raises ScheduleFault."""
     reader = Reader(history)
-    while not reader.at_end:
-        reader.take(source.readline(LONGEST_LINE + 1))
-    if source.readline(1):
-        raise ScheduleFault(reader.line + 1, 'a line behind the last')
+    for text in lines_of(source):
+        reader.take(text)
+    if not reader.at_end:
+        raise ScheduleFault(reader.line + 1, 'it is missing: the last line is end T or limit')
+
+
+def lines_of(source):
+    """The lines of a source of bytes, each with its line feed; the last may lack it, and so does one that is too long."""
+    left = ''
+    while True:
+        block = source.read(BLOCK)
+        lines = (left + block.decode('latin-1')).split('\n')
+        left = lines.pop()
+        for line in lines:
+            yield line + '\n'
+        if not block or len(left) > LONGEST_LINE:
+            break
+    if left:
+        yield left
 
 
 class Reader:
@@ -45,22 +62,20 @@ class Reader:
         self.line = 0
         self.at_end = False
         self._entries = True    # whether entries may come, which is so up to the statistics
+        self._views = ''        # the words of the last tick: they often come again
+        self._directives = {}   # what lines that were read say: lines of directives come again and again
 
-    def take(self, data):
+    def take(self, text):
         """Takes a line with its line feed."""
         self.line += 1
         try:
-            self._take_text(self._text_of(data))
+            if self.at_end:
+                raise Contradiction('a line behind the last')
+            if text[-1] != '\n' or len(text) > LONGEST_LINE:
+                raise Contradiction('it lacks its line feed' if len(text) <= LONGEST_LINE else 'it is too long')
+            self._take_text(text[:-1])
         except Contradiction as why:
             raise ScheduleFault(self.line, why) from None
-
-    def _text_of(self, data):
-        """The text of a line without its line feed."""
-        if not data:
-            raise Contradiction('the line is missing: the last one is end T or limit')
-        if data[-1:] != b'\n':
-            raise Contradiction('it lacks its line feed' if len(data) <= LONGEST_LINE else 'it is too long')
-        return data[:-1].decode('latin-1')
 
     def _take_text(self, text):
         """Takes the text of a line."""
@@ -78,17 +93,30 @@ class Reader:
 
     def _take_entry(self, text):
         """Takes the line of an entry, and says whether it is one."""
+        directive = self._directives.get(text) or self._read_directive(text)
+        if directive is not None:
+            self.history.act(directive)
+            return True
+        if text == f'tick {self.history.now + 1}{self._views}':
+            self.history.tick(self.history.now + 1, self._views)
+            return True
         found = TICK.fullmatch(text)
         if found:
+            self._views = found[2]
             self.history.tick(int(found[1]), found[2])
-            return True
+        return found is not None
+
+    def _read_directive(self, text):
+        """What the line of a directive's entry says, or None."""
         found = ENTRY.fullmatch(text)
-        if found:
-            processor, task, body, line, word, waits, form, status, out = found.groups()
-            self.history.act(int(processor), int(task), body, int(line), word, waits or form,
-                             int(status or 0), int(out or '0', 16), text)
-            return True
-        return False
+        if not found:
+            return None
+        processor, task, body, line, word, waits, form, status, out = found.groups()
+        if len(self._directives) >= DIRECTIVES_KEPT:
+            self._directives.clear()
+        self._directives[text] = directive = Directive(int(processor), int(task), (body, int(line)), word, waits or form,
+                                                       int(status or 0), int(out or '0', 16), text)
+        return directive
 
     def _take_closing(self, text):
         """Takes a line of the statistics or the last line, and says whether it is one."""

@@ -4,6 +4,7 @@ The colours are six of the eight that Okabe and Ito chose for colour-blind reade
 failed. A task's colour and its pattern go round with different lengths, so that thirty tasks in a row look unlike each
 other, and neighbours differ in black and white too. The number of the task stands beside them everywhere.
 """
+from functools import cache
 from html import escape
 
 # Of each colour, and of the lines of a pattern on it.
@@ -29,16 +30,21 @@ LETTER = 0.61   # the width of a letter of a monospaced font, of its size; those
 
 def element(name, content='', /, **attributes):
     """An element. The names of attributes have `_` for `-`, and one at their end is dropped; texts are escaped."""
-    words = [f'{key.rstrip("_").replace("_", "-")}="{escape(show(value))}"' for key, value in attributes.items()]
-    start = ' '.join([name] + words)
-    return f'<{start}>{content}</{name}>' if content else f'<{start}/>'
+    words = [f' {spelled(key)}="{show(value)}"' for key, value in attributes.items()]
+    return f'<{name}{"".join(words)}>{content}</{name}>' if content else f'<{name}{"".join(words)}/>'
+
+
+@cache
+def spelled(key):
+    """The name of an attribute."""
+    return key.rstrip('_').replace('_', '-')
 
 
 def show(value):
-    """A value of an attribute: numbers with at most one decimal."""
+    """A value of an attribute: numbers with at most one decimal, and texts escaped."""
     if isinstance(value, float):
         return f'{value:.1f}'.removesuffix('.0')
-    return str(value)
+    return escape(value) if isinstance(value, str) else str(value)
 
 
 def title(text):
