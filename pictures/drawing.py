@@ -203,7 +203,7 @@ class Drawing:
             dash = {} if helper is not None and stretch.foreign else {'stroke_dasharray': '5 3'}
             drawn += element('rect', x=x + 2, y=y + 2, width=max(width - 4.0, 1.0), height=BAR - 4, fill='none',
                              stroke='#333' if helper is None else colour_of(helper), stroke_width=3,
-                             pointer_events='none', **dash)
+                             pointer_events='none', class_='helped', **dash)
         return drawn + fitting(labels, x, width, y)
 
     def wait(self, wait, turns, band, y):

@@ -6,6 +6,8 @@ contradict each other, since no picture could show them: a task that acts while 
 """
 from typing import NamedTuple
 
+from pictures.scenario import value
+
 DEFAULT_TICKS = 2_000
 GREATEST_MARKS = 20_000
 SUCCESSES = (0, 1)
@@ -71,12 +73,15 @@ class Directive(NamedTuple):
 
 
 class Task:
-    """How a task stands: since when it is known, its wait, whether it has ended, and with what it was made."""
-    __slots__ = ('number', 'since', 'wait', 'exited', 'maker')
+    """How a task stands: since when it is there, its wait, whether it has exited, and with what it was made.
+
+    `may_own` says whether it has obtained a semaphore, or created one that it may own. Only such a task is ever helped.
+    """
+    __slots__ = ('number', 'since', 'wait', 'exited', 'may_own', 'maker')
 
     def __init__(self, number, since, maker):
         self.number, self.since, self.maker = number, since, maker
-        self.wait, self.exited = None, False
+        self.wait, self.exited, self.may_own = None, False, False
 
 
 class History:
@@ -168,8 +173,8 @@ class History:
         elif directive.word == 'task.exit':
             self._keep_life(task)
             task.exited = self._changed = True
-        elif directive.word == 'task.create' and directive.status == 0:
-            self._create(task, directive.out, operands)
+        elif directive.status == 0:
+            self._succeed(task, directive, operands)
         self.directives += 1
         if self.first <= self.now <= self.last:
             self._mark(directive, operands)
@@ -191,6 +196,8 @@ class History:
         if wait.place != directive.place or wait.word != directive.word:
             raise Contradiction(f'task {task.number} waits in {wait.place[0]}:{wait.place[1]} {wait.word}')
         self._end_wait(task)
+        if directive.status == 0:
+            self._succeed(task, directive, None)
 
     def _wait(self, task, directive):
         """A task begins to wait. Its processor may be kept by it, if it spins."""
@@ -203,6 +210,13 @@ class History:
         if not self._is_foreign(task, processor) and (host is None or not host.spun):
             self._hosts[processor] = wait
 
+    def _succeed(self, task, directive, operands):
+        """A directive has succeeded: what it makes known."""
+        if directive.word == 'task.create':
+            self._create(task, directive.out, operands)
+        elif directive.word in ('sem.obtain', 'sem.create'):
+            task.may_own = True
+
     def _create(self, creator, out, operands):
         """A task is made: its index is in its id."""
         number = out & 0xffff
@@ -210,8 +224,7 @@ class History:
             raise Contradiction(f'{out:x} is the id of no task')
         maker = None
         if operands is not None and creator.maker is not None:
-            name, priority = operands[1], operands[2]
-            maker = creator.maker._replace(name=name, priority=int(priority, 16 if priority[:2] == '0x' else 10))
+            maker = creator.maker._replace(name=operands[1], priority=value(operands[2]))
         self._begin(number, self.now, maker)
 
     def _mark(self, directive, operands):
@@ -273,8 +286,9 @@ class History:
         number, spins = seen
         if spins:
             return number, True, None, False
-        foreign = self._is_foreign(self._tasks[number], processor)
-        host = self._host(processor)
+        task = self._tasks[number]
+        foreign = self._is_foreign(task, processor)
+        host = self._host(processor) if task.may_own else None
         if host is None and foreign:
             host = self._only_host(processor, spinning)
         return number, False, host, foreign

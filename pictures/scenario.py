@@ -53,11 +53,16 @@ class Scenario:
         return lines[line - 1] if line <= len(lines) else ['task.exit']
 
 
+def value(word):
+    """The value of a word that spells a number."""
+    return int(word, 16 if word.startswith('0x') else 10)
+
+
 def number(word, line):
-    """The number that a word spells."""
+    """The number that a word spells; a fault where it spells none."""
     if not NUMBER.fullmatch(word):
         raise ScenarioFault(line, f'{word[:20]} is no number')
-    return int(word, 16 if word.startswith('0x') else 10)
+    return value(word)
 
 
 def statements(text):
@@ -82,6 +87,16 @@ def read_cluster(scenario, words, line):
     scenario.clusters.append(number(words[1], line))
     if scenario.clusters[-1] == 0 or scenario.processors() > GREATEST_PROCESSORS:
         raise ScenarioFault(line, f'a cluster has at least one processor, and all have at most {GREATEST_PROCESSORS}')
+
+
+def read_body_line(scenario, body, words, line):
+    """Reads a line of a body. Only the operands of which a picture makes use are looked at."""
+    if words[0] == 'task.create':
+        expect(words, 4, line)
+        number(words[2], line)
+    elif words[0] == 'period.period':
+        expect(words, 3, line)
+    scenario.bodies[body].append(words)
 
 
 def read_init(scenario, words, line):
@@ -109,7 +124,7 @@ def read_scenario(data):
         if body is not None:
             body = None if words == ['end'] else body
             if body is not None:
-                scenario.bodies[body].append(words)
+                read_body_line(scenario, body, words, at)
         elif words[0] == 'body':
             expect(words, 2, at)
             body = words[1]
