@@ -11,6 +11,7 @@ from pictures.scenario import value
 DEFAULT_TICKS = 2_000
 GREATEST_MARKS = 20_000
 SUCCESSES = (0, 1)
+SLEEPS_IN = 'task.wake_after'
 SPINS_IN = 'sem.obtain'   # the only directive in which a task that waits may spin
 
 # The kinds of marks.
@@ -22,15 +23,17 @@ class Contradiction(Exception):
 
 
 class Wait:
-    """A wait: of a task, from the call at `place` (body and line) to its return, or to nothing that was seen.
+    """A wait: of a task, from the call at `place` (body and line) on.
 
-    `processor` is where its task was seen last, and `spun` says whether it was seen to spin.
+    `back` is the tick of its return and `end` that up to which it lasts as far as is known, which is its return too, but
+    for a sleep whose length the scenario tells. `processor` is where its task was seen last, and `spun` says whether it
+    was seen to spin.
     """
-    __slots__ = ('task', 'word', 'place', 'start', 'end', 'processor', 'spun')
+    __slots__ = ('task', 'word', 'place', 'start', 'end', 'back', 'processor', 'spun')
 
     def __init__(self, task, word, place, start, processor):
         self.task, self.word, self.place, self.start, self.processor = task, word, place, start, processor
-        self.end, self.spun = None, False
+        self.end, self.back, self.spun = None, None, False
 
 
 class Stretch(NamedTuple):
@@ -46,6 +49,11 @@ class Stretch(NamedTuple):
     end: int
     host: object
     foreign: bool
+
+    def is_continued(self, other):
+        """Whether another stretch follows this one and is drawn alike."""
+        return (self.end == other.start and (self.task, self.spins, self.foreign, self.helper())
+                == (other.task, other.spins, other.foreign, other.helper()))
 
     def helper(self):
         """The task in whose place this one runs, as far as the schedule tells, or None."""
@@ -148,7 +156,8 @@ class History:
     def _end_wait(self, task):
         """Ends the wait of a task now, and keeps it where it falls into the window."""
         wait, task.wait = task.wait, None
-        wait.end = self.now
+        wait.back = self.now
+        wait.end = self.now if wait.end is None else min(wait.end, self.now)
         self._changed = True
         if wait.start < self.last and wait.end > self.first:
             self.waits.append(wait)
@@ -169,7 +178,7 @@ class History:
         elif task.wait is not None:
             raise Contradiction(f'task {task.number} waits since tick {task.wait.start}, and has not returned')
         elif directive.form == 'waits':
-            self._wait(task, directive)
+            self._wait(task, directive, operands)
         elif directive.word == 'task.exit':
             self._keep_life(task)
             task.exited = self._changed = True
@@ -199,11 +208,13 @@ class History:
         if directive.status == 0:
             self._succeed(task, directive, None)
 
-    def _wait(self, task, directive):
+    def _wait(self, task, directive, operands):
         """A task begins to wait. Its processor may be kept by it, if it spins."""
         self._changed = True
         processor = directive.processor
         task.wait = wait = Wait(task.number, directive.word, directive.place, self.now, processor)
+        if directive.word == SLEEPS_IN and operands:
+            wait.end = self.now + value(operands[1])
         if directive.word != SPINS_IN:
             return
         host = self._host(processor)
@@ -314,7 +325,7 @@ class History:
     def _host(self, processor):
         """The wait of the task that was seen last to keep a processor, if it still goes on there."""
         wait = self._hosts.get(processor)
-        return wait if wait is not None and wait.end is None and wait.processor == processor else None
+        return wait if wait is not None and wait.back is None and wait.processor == processor else None
 
     def _only_host(self, processor, spinning):
         """The wait for a semaphore of the only task of a processor's cluster that can spin there, or None."""
@@ -333,8 +344,21 @@ class History:
             self._change(processor, None)
         for task in self._tasks.values():
             self._finish(task)
+        self._join_stretches()
         if self.processors is None:
             self.processors = self._greatest_processor + 1
+
+    def _join_stretches(self):
+        """Joins stretches that are drawn alike: whether a task kept the processor is known only now."""
+        joined, last = [], {}
+        for stretch in self.stretches:
+            before = last.get(stretch.processor)
+            if before is not None and joined[before].is_continued(stretch):
+                joined[before] = joined[before]._replace(end=stretch.end)
+            else:
+                last[stretch.processor] = len(joined)
+                joined.append(stretch)
+        self.stretches = joined
 
 
 def kind_of(directive, operands):

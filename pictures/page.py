@@ -21,8 +21,9 @@ th { background: #eee; text-align: center; font-weight: normal; vertical-align: 
 NOTES = (
     'A block from N to N + 1 is what a processor does through the tick N + 1. Directives take no time: those of the '
     'present tick N stand in their order from N on.',
-    'A wait is drawn up to the return from it. It may have ended before: the task returns when it gets a processor. One '
-    'without a return is drawn up to the end, or to the create of another task with its number.',
+    'A wait is drawn up to the return from it. It may have ended before: the task returns when it gets a processor. Only '
+    'of a sleep the scenario tells the end. A wait without a return is drawn up to the end, or to the create of another '
+    'task with its number.',
     'Whether a task that neither runs nor waits is ready, suspended or dormant, and when a task is deleted, stands '
     'nowhere in a schedule.',
 )

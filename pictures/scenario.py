@@ -96,6 +96,9 @@ def read_body_line(scenario, body, words, line):
         number(words[2], line)
     elif words[0] == 'period.period':
         expect(words, 3, line)
+    elif words[0] == 'task.wake_after':
+        expect(words, 2, line)
+        number(words[1], line)
     scenario.bodies[body].append(words)
 
 
