@@ -17,6 +17,7 @@ LABEL, SMALL = 11, 10   # sizes of letters
 BAR = 15                # the height of a block
 MARK = 7                # the width of a mark's place
 LANE = 10               # the height of a line of marks
+USUAL_LANES = 8
 GREATEST_LANES = 40
 GAP = 6                 # between rows
 HEADING = 18
@@ -121,7 +122,7 @@ class Drawing:
         """A band at a height: its text and its height."""
         placed = [(row, *self.lanes(row, band)) for row in self.rows]
         y, parts = top + AXIS, []
-        for row, lanes, per_lane in placed:
+        for row, lanes, places in placed:
             if row.kind == 'heading':
                 parts.append(element('text', escape(row.text), x=0, y=y + 13, class_='s h'))
                 y += HEADING
@@ -129,24 +130,30 @@ class Drawing:
                 parts.append(self.processor_row(row, band, y))
                 y += BAR + GAP
             else:
-                parts.append(self.task_row(row, band, y, lanes, per_lane))
+                parts.append(self.task_row(row, band, y, lanes, places))
                 y += lanes * LANE + BAR + GAP
         return axis(band, top, y, self.history.cut) + ''.join(parts), y - top
 
     def lanes(self, row, band):
-        """How many lines of marks a row has in a band, and how many marks of one tick stand in a line, for each tick."""
+        """How many lines of marks a row has in a band; and for each tick how many marks stand in a line, and their room.
+
+        They stand within the width of a tick, unless that takes too many lines: then they take the room up to the next.
+        """
         if row.kind != 'task':
             return 0, {}
         counts = {}
         for mark in self.marks_in(row.number, band):
             counts[mark.tick] = counts.get(mark.tick, 0) + 1
-        ticks, most, per_lane = list(counts), 1, {}
-        for at, tick in enumerate(ticks):
-            end = band.x(ticks[at + 1]) if at + 1 < len(ticks) else band.right()
-            fit = max(1, int((end - band.x(tick)) / MARK))
-            per_lane[tick] = (max(fit, -(-counts[tick] // GREATEST_LANES)), end - band.x(tick))
-            most = max(most, -(-counts[tick] // per_lane[tick][0]))
-        return most, per_lane
+        ends = [band.x(tick) for tick in list(counts)[1:]] + [band.right()]
+        most, placed = 1, {}
+        for (tick, count), end in zip(counts.items(), ends):
+            room = end - band.x(tick)
+            if band.tick < room and count <= USUAL_LANES * (band.tick // MARK) and tick < band.last:
+                room = band.tick
+            fit = max(1, int(room / MARK), -(-count // GREATEST_LANES))
+            placed[tick] = fit, room
+            most = max(most, -(-count // fit))
+        return most, placed
 
     def marks_in(self, task, band):
         """The marks of a task in a band. Those at its end are in the next band, if there is one."""
@@ -169,7 +176,7 @@ class Drawing:
             parts.append(self.block(stretch, band, y, labels + [str(stretch.task)], 'block'))
         return element('g', ''.join(parts))
 
-    def task_row(self, row, band, y, lanes, per_lane):
+    def task_row(self, row, band, y, lanes, places):
         """The row of a task: its marks, and below them what it does."""
         parts = [self.task_label(row.number, y + lanes * LANE)]
         y += lanes * LANE
@@ -181,7 +188,7 @@ class Drawing:
         for wait in within(self.waits.get(row.number, []), band):
             parts += self.wait(wait, turns, band, y)
         parts += [self.block(turn, band, y, [f'p{turn.processor}'], 'turn') for turn in turns]
-        parts += self.row_marks(row.number, band, y - lanes * LANE, per_lane)
+        parts += self.row_marks(row.number, band, y - lanes * LANE, places)
         return element('g', ''.join(parts))
 
     def block(self, stretch, band, y, labels, class_):
@@ -227,13 +234,13 @@ class Drawing:
             self.letters[wait.word[0]] = wait.word
         return drawn + fitting([wait.word, wait.word[0]], x, width, y)
 
-    def row_marks(self, task, band, y, per_lane):
+    def row_marks(self, task, band, y, places):
         """The marks of a task's directives."""
         parts, tick, count = [], None, 0
         for mark in self.marks_in(task, band):
             count = count + 1 if mark.tick == tick else 0
             tick = mark.tick
-            fit, room = per_lane[tick]
+            fit, room = places[tick]
             x = band.x(tick) + 1 + (count % fit) * min(MARK, room / fit)
             parts.append(mark_at(mark.kind, x, y + count // fit * LANE, title(mark.text)))
         return parts
