@@ -80,7 +80,7 @@ class Band(NamedTuple):
 
 
 class Drawing:
-    """An SVG of a history. `text` has it once `draw` was called; `width` and `height` are its size."""
+    """What an SVG of a history is made of, and where things stand in it."""
 
     def __init__(self, history):
         self.history = history
@@ -91,26 +91,24 @@ class Drawing:
         self.waits = grouped(history.waits, lambda wait: wait.task)
         self.marks = grouped(history.marks, lambda mark: mark.task)
         self.letters = {}       # of the words of waits those that were drawn as a letter
-        self.width = self.height = 0
 
     def draw(self):
         """The SVG's text."""
-        parts, y = [], 4
-        for band in bands_of(self.history, self.left, self.final_room()):
-            self.width = max(self.width, band.right() + 6)
+        bands, parts, y = bands_of(self.history, self.left, self.final_room()), [], 4
+        for band in bands:
             drawn, height = self.band(band, y)
             parts.append(drawn)
             y += height + BETWEEN_BANDS
         items = legend_items(self)
-        self.width = max([self.width, LEAST_WIDTH] + [8 + legend_width(text) for _, text in items])
-        drawn, height = legend(items, self.width, y)
-        self.height = y + height
+        wide = float(max([LEAST_WIDTH] + [band.right() + 6 for band in bands]
+                         + [8 + legend_width(text) for _, text in items]))
+        drawn, height = legend(items, wide, y)
         tasks = sorted({row.number for row in self.rows if row.kind == 'task'} | {1, 2})
-        defs = element('defs', ''.join(patterns_of(task) for task in tasks) + ''.join(
-            element('path', d=shape, id=kind, class_='m', **paint) for kind, (shape, paint) in MARKS.items()))
-        return element('svg', element('style', STYLE) + defs + element('rect', width='100%', height='100%', fill='#fff')
-                       + ''.join(parts) + drawn, xmlns='http://www.w3.org/2000/svg', width=show(float(self.width)),
-                       height=show(float(self.height)), role='img', aria_label='a schedule')
+        marks = (element('path', d=shape, id=kind, class_='m', **paint) for kind, (shape, paint) in MARKS.items())
+        defs = element('defs', ''.join([patterns_of(task) for task in tasks] + list(marks)))
+        ground = element('rect', width='100%', height='100%', fill='#fff')
+        return element('svg', ''.join([element('style', STYLE), defs, ground, *parts, drawn]), role='img',
+                       xmlns='http://www.w3.org/2000/svg', width=wide, height=float(y + height), aria_label='a schedule')
 
     def final_room(self):
         """The room for the directives of the last present tick: up to four lines of marks, where that isn't too wide."""
@@ -132,7 +130,7 @@ class Drawing:
             else:
                 parts.append(self.task_row(row, band, y, lanes, places))
                 y += lanes * LANE + BAR + GAP
-        return axis(band, top, y, self.history.cut) + ''.join(parts), y - top
+        return axis(band, top, y, self.history.last == self.history.now) + ''.join(parts), y - top
 
     def lanes(self, row, band):
         """How many lines of marks a row has in a band; and for each tick how many marks stand in a line, and their room.
@@ -165,12 +163,11 @@ class Drawing:
 
     def processor_row(self, row, band, y):
         """The row of a processor: what it does, tick by tick."""
-        parts = [element('text', f'p{row.number}', x=8, y=y + 12),
-                 element('path', d=f'M{show(band.left)} {y + BAR}H{show(float(band.x(band.last)))}', stroke='#ccc')]
+        ground = f'M{show(float(band.left))} {y + BAR}H{show(float(band.x(band.last)))}'
+        parts = [element('text', f'p{row.number}', x=8, y=y + 12), element('path', d=ground, stroke='#ccc')]
         for stretch in within(self.stretches.get(row.number, []), band):
-            names = self.names(stretch.task)
-            labels = [f'{stretch.task} {names[-1]}'] if names else []
-            helper = stretch.helper()
+            helper, makers = stretch.helper(), self.makers(stretch.task, stretch.start)
+            labels = [f'{stretch.task} {makers[-1][1].name}'] if makers else []
             if helper is not None:
                 labels = [f'{stretch.task} for {helper}']
             parts.append(self.block(stretch, band, y, labels + [str(stretch.task)], 'block'))
@@ -196,7 +193,8 @@ class Drawing:
         start, end = band.clip(stretch.start, stretch.end)
         x, width = band.x(start), (end - start) * band.tick
         what = 'spins' if stretch.spins else 'runs'
-        spoken = f'task {stretch.task} {what} on processor {stretch.processor}, from tick {stretch.start} to {stretch.end}'
+        spoken = (f'task {stretch.task} {what} on processor {stretch.processor}, '
+                  f'from tick {stretch.start} to {stretch.end}')
         helper = stretch.helper()
         if helper is not None:
             spoken += f', in place of task {helper}' + ('' if stretch.foreign else ', or it took the processor from it')
@@ -227,7 +225,8 @@ class Drawing:
     def wait_bar(self, wait, band, y, start, end):
         """A bar of a wait, with its word or, where it is too narrow, the word's first letter."""
         x, width = band.x(start), (end - start) * band.tick
-        spoken = f'task {wait.task} waits in {wait.place[0]}:{wait.place[1]} {wait.word}, from tick {wait.start} to {wait.end}'
+        spoken = (f'task {wait.task} waits in {wait.place[0]}:{wait.place[1]} {wait.word}, '
+                  f'from tick {wait.start} to {wait.end}')
         drawn = element('rect', title(spoken), x=x, y=y + 1, width=float(width), height=BAR - 2, fill='#f4f4f4',
                         stroke='#777', stroke_width=0.8, class_='wait')
         if width_of(wait.word, SMALL) + 4 > width:
@@ -245,21 +244,21 @@ class Drawing:
             parts.append(mark_at(mark.kind, x, y + count // fit * LANE, title(mark.text)))
         return parts
 
-    def names(self, task):
-        """The names of the tasks that had an index, as the scenario tells."""
-        return [maker.name for _, maker in self.history.makers.get(task, [])]
+    def makers(self, task, tick):
+        """Since when and with what the tasks that had an index up to a tick were made, as the scenario tells."""
+        return [maker for maker in self.history.makers.get(task, []) if maker[0] <= tick]
 
     def task_label(self, task, y):
         """The label of a task's row: its colour and number, and its name and priority, as the scenario tells."""
-        makers = [maker for _, maker in self.history.makers.get(task, [])]
-        drawn = element('rect', x=8, y=y, width=24, height=BAR, fill=f'url(#run-{task})', stroke='#222', stroke_width=0.8)
-        drawn += fitting([str(task)], 8, 24, y)
+        makers = self.makers(task, self.history.last)
+        drawn = element('rect', x=8, y=y, width=24, height=BAR, fill=f'url(#run-{task})', stroke='#222',
+                        stroke_width=0.8) + fitting([str(task)], 8, 24, y)
         if makers:
-            name = makers[-1].name + ('+' if len(makers) > 1 else '')
+            name = makers[-1][1].name + ('+' if len(makers) > 1 else '')
             spoken = '; '.join(f'from tick {since}: {maker.name}, priority {maker.priority}, cluster {maker.home}'
-                               for since, maker in self.history.makers[task])
+                               for since, maker in makers)
             drawn += element('text', title(f'task {task}, {spoken}') + escape(name), x=40, y=y + 12)
-            drawn += element('text', f'priority {makers[-1].priority}', x=80, y=y + 12, class_='s h')
+            drawn += element('text', f'priority {makers[-1][1].priority}', x=80, y=y + 12, class_='s h')
         return drawn
 
 
@@ -272,7 +271,7 @@ def grouped(items, key):
 
 
 def within(items, band):
-    """Those of the waits or stretches of a task or a processor, which follow each other, of which a part is in the band."""
+    """Of the waits or stretches of a task or a processor, which follow each other, those that are in the band in part."""
     first = bisect_right(items, band.first, key=lambda item: item.end)
     return items[first:bisect_left(items, band.last, key=lambda item: item.start)]
 
@@ -310,21 +309,23 @@ def bands_of(history, left, room):
                  first == firsts[-1]) for first in firsts]
 
 
-def axis(band, top, bottom, cut):
-    """The ticks along the top of a band, with lines down to its bottom; the end of the window is a thick one."""
+def axis(band, top, bottom, is_whole):
+    """The ticks along the top of a band, with lines down to its bottom: a thick one at the end, if all is drawn."""
     widest = width_of(str(band.last), SMALL) + 8
     step = next(step for step in (1, 2, 5, 10, 20, 50, 100) if step * band.tick >= widest or step == 100)
     parts, free = [], 0.0
     for tick in range(band.first, band.last + 1):
-        x, is_end = band.x(tick), band.closes and tick == band.last
+        x, is_end = float(band.x(tick)), band.closes and tick == band.last
         labelled = tick % step == 0 or tick == band.first or is_end
         near_end = band.closes and not is_end and x + widest > band.x(band.last) and tick != band.first
         shown = labelled and x >= free and not near_end
         if shown:
             free = x + widest
             parts.append(element('text', str(tick), x=x, y=top + 10, class_='s', text_anchor='middle'))
-        stroke = dict(stroke='#222', stroke_width=1.6) if is_end else dict(stroke='#ccc' if shown else '#eee')
-        parts.append(element('path', d=f'M{show(float(x))} {top + (13 if shown else 16)}V{bottom}', **stroke))
+        paint = {'stroke': '#ccc' if shown else '#eee'}
+        if is_end:
+            paint = {'stroke': '#222', 'stroke_width': 1.6} if is_whole else {'stroke': '#222', 'stroke_dasharray': '4 3'}
+        parts.append(element('path', d=f'M{show(x)} {top + (13 if shown else 16)}V{bottom}', **paint))
     parts.append(element('text', 'tick', x=0, y=top + 10, class_='s h'))
     return element('g', ''.join(parts))
 
@@ -379,7 +380,8 @@ def legend_items(drawing):
     if any(start < end for lives in drawing.history.lives.values() for start, end in lives):
         items.append((line_sample, 'ready, suspended or dormant: which is not told'))
     kinds = {mark.kind for mark in drawing.history.marks}
-    return items + [(lambda x, y, kind=kind: mark_at(kind, x + 9, y + 3), MARK_WORDS[kind]) for kind in MARKS if kind in kinds]
+    mark = lambda kind: lambda x, y: mark_at(kind, x + 9, y + 3)
+    return items + [(mark(kind), MARK_WORDS[kind]) for kind in MARKS if kind in kinds]
 
 
 def box(x, y, fill, label, border, dash):

@@ -104,7 +104,7 @@ class History:
         self.directives = 0
         self.directives_in_window = 0
         self.stretches, self.waits, self.marks = [], [], []
-        self.lives = {}             # of each task the ticks, from and to, at which it is known to be there
+        self.lives = {}             # of each task the ticks, from and to, at which it may be there
         self.makers = {}            # of each task with what it was made: more than one where the index was used again
         self.statistics = []        # of each period its id and eight numbers
         self.unknown = []           # the first lines of kinds that this script doesn't know, and their number
@@ -319,8 +319,8 @@ class History:
     # Whom a processor belongs to
 
     def _is_foreign(self, task, processor):
-        """Whether a task is known to be of another cluster than a processor."""
-        return task.maker is not None and task.maker.home != self.scenario.cluster_of(processor)
+        """Whether a task is known to be of another cluster than a processor. In a later version it may have moved."""
+        return self.version == 1 and task.maker is not None and task.maker.home != self.scenario.cluster_of(processor)
 
     def _host(self, processor):
         """The wait of the task that was seen last to keep a processor, if it still goes on there."""
@@ -362,7 +362,7 @@ class History:
 
 
 def kind_of(directive, operands):
-    """The kind of a directive's mark. Without its operands a question how a period stands isn't told from a job's end."""
+    """The kind of a directive's mark. Without operands a question how a period stands isn't told from a job's end."""
     word, form, status = directive.word, directive.form, directive.status
     if word == 'period.period' and not (operands and operands[2] in ('0', '0x00000000')):
         if form == 'waits':

@@ -39,12 +39,16 @@ QUESTIONS = (
 )
 
 
+def counted(number, one, many):
+    """So many of something."""
+    return f'{number:,} {one if number == 1 else many}'
+
+
 def summary(history):
-    """What the schedule has, in a sentence."""
-    count = lambda number, word: f'{number:,} {word}' + ('' if number == 1 else 's')
+    """What the schedule has, in sentences."""
     end = 'The history was cut at its limit of entries' if history.cut else 'The run reached its end'
-    return (f'{count(history.processors, "processor")}, {count(len(history.lives), "task")}, '
-            f'{count(history.directives, "entry").replace("entrys", "entries")} of directives. {end} at tick {history.now:,}.')
+    return (f'{counted(history.processors, "processor", "processors")}, {counted(len(history.lives), "task", "tasks")}, '
+            f'{counted(history.directives, "entry", "entries")} of directives. {end} at tick {history.now:,}.')
 
 
 def left_out(history):
