@@ -107,11 +107,12 @@ class Drawing:
         marks = (element('path', d=shape, id=kind, class_='m', **paint) for kind, (shape, paint) in MARKS.items())
         defs = element('defs', ''.join([patterns_of(task) for task in tasks] + list(marks)))
         ground = element('rect', width='100%', height='100%', fill='#fff')
-        return element('svg', ''.join([element('style', STYLE), defs, ground, *parts, drawn]), role='img',
-                       xmlns='http://www.w3.org/2000/svg', width=wide, height=float(y + height), aria_label='a schedule')
+        return element('svg', ''.join([element('style', STYLE), defs, ground, *parts, drawn]),
+                       xmlns='http://www.w3.org/2000/svg', width=wide, height=float(y + height), role='img',
+                       aria_label='a schedule')
 
     def final_room(self):
-        """The room for the directives of the last present tick: up to four lines of marks, where that isn't too wide."""
+        """The room for the directives of the last present tick: up to four lines of marks, if it isn't too wide."""
         last = self.history.last
         most = max((sum(mark.tick == last for mark in marks) for marks in self.marks.values()), default=0)
         return min(max(26, -(-most // 4) * MARK + 6), 300)
@@ -133,7 +134,7 @@ class Drawing:
         return axis(band, top, y, self.history.last == self.history.now) + ''.join(parts), y - top
 
     def lanes(self, row, band):
-        """How many lines of marks a row has in a band; and for each tick how many marks stand in a line, and their room.
+        """How many lines of marks a row has in a band; and of each tick how many stand in a line, and their room.
 
         They stand within the width of a tick, unless that takes too many lines: then they take the room up to the next.
         """
@@ -271,7 +272,7 @@ def grouped(items, key):
 
 
 def within(items, band):
-    """Of the waits or stretches of a task or a processor, which follow each other, those that are in the band in part."""
+    """Of the waits or stretches of a task or a processor, which follow each other, those in the band."""
     first = bisect_right(items, band.first, key=lambda item: item.end)
     return items[first:bisect_left(items, band.last, key=lambda item: item.start)]
 
@@ -298,7 +299,7 @@ def rows_of(history):
 
 
 def bands_of(history, left, room):
-    """The bands of a history's window: as few as fit the width, each of a multiple of ten ticks where there are more."""
+    """The bands of a history's window: as few as fit the width, each of a multiple of ten ticks if there are more."""
     ticks = history.last - history.first
     fit = int((WIDTH - left - room - 6) / LEAST_TICK)
     count = max(1, -(-ticks // fit)) if ticks <= fit else -(-ticks // (fit // 10 * 10))
@@ -324,7 +325,7 @@ def axis(band, top, bottom, is_whole):
             parts.append(element('text', str(tick), x=x, y=top + 10, class_='s', text_anchor='middle'))
         paint = {'stroke': '#ccc' if shown else '#eee'}
         if is_end:
-            paint = {'stroke': '#222', 'stroke_width': 1.6} if is_whole else {'stroke': '#222', 'stroke_dasharray': '4 3'}
+            paint = {'stroke': '#222', **({'stroke_width': 1.6} if is_whole else {'stroke_dasharray': '4 3'})}
         parts.append(element('path', d=f'M{show(x)} {top + (13 if shown else 16)}V{bottom}', **paint))
     parts.append(element('text', 'tick', x=0, y=top + 10, class_='s h'))
     return element('g', ''.join(parts))

@@ -2,7 +2,7 @@
 
 A history is fed with the entries of a schedule in their order. It keeps what falls into the window of ticks that is
 drawn, and of the rest only how things stand, so that its size doesn't grow with the schedule. It refuses entries that
-contradict each other, since no picture could show them: a task that acts while it waits, or that is on two processors at once.
+contradict each other, since no picture could show them: a task that acts while it waits, or is on two processors.
 """
 from typing import NamedTuple
 
@@ -25,9 +25,9 @@ class Contradiction(Exception):
 class Wait:
     """A wait: of a task, from the call at `place` (body and line) on.
 
-    `back` is the tick of its return and `end` that up to which it lasts as far as is known, which is its return too, but
-    for a sleep whose length the scenario tells. `processor` is where its task was seen last, and `spun` says whether it
-    was seen to spin.
+    `back` is the tick of its return, and `end` the one up to which it lasts as far as is known: its return too, but for
+    a sleep whose length the scenario tells. `processor` is where its task was seen last, and `spun` says whether it was
+    seen to spin.
     """
     __slots__ = ('task', 'word', 'place', 'start', 'end', 'back', 'processor', 'spun')
 

@@ -21,17 +21,17 @@ th { background: #eee; text-align: center; font-weight: normal; vertical-align: 
 NOTES = (
     'A block from N to N + 1 is what a processor does through the tick N + 1. Directives take no time: those of the '
     'present tick N stand in their order from N on.',
-    'A wait is drawn up to the return from it. It may have ended before: the task returns when it gets a processor. Only '
-    'of a sleep the scenario tells the end. A wait without a return is drawn up to the end, or to the create of another '
-    'task with its number.',
+    'A wait is drawn up to the return from it. It may have ended before: the task returns when it gets a processor. '
+    'Only of a sleep the scenario tells the end. A wait without a return is drawn up to the end, or to the create of '
+    'another task with its number.',
     'Whether a task that neither runs nor waits is ready, suspended or dormant, and when a task is deleted, stands '
     'nowhere in a schedule.',
 )
 SPINNING = (
     'A task that runs in place of another one, which spins, has a border in the colour of that one. A schedule '
     "doesn't name it: it is the task that was seen last to keep the processor, and still waits for a semaphore. Where "
-    'the border is dashed, the task may also have taken the processor from it: only a scenario of several clusters tells '
-    'the two apart.'
+    'the border is dashed, the task may also have taken the processor from it: only a scenario of several clusters '
+    'tells the two apart.'
 )
 QUESTIONS = (
     'A period.period with the status 6 is drawn as the end of a late job. With the length 0 it is only a question; the '
@@ -47,19 +47,20 @@ def counted(number, one, many):
 def summary(history):
     """What the schedule has, in sentences."""
     end = 'The history was cut at its limit of entries' if history.cut else 'The run reached its end'
-    return (f'{counted(history.processors, "processor", "processors")}, {counted(len(history.lives), "task", "tasks")}, '
-            f'{counted(history.directives, "entry", "entries")} of directives. {end} at tick {history.now:,}.')
+    counts = [counted(history.processors, 'processor', 'processors'), counted(len(history.lives), 'task', 'tasks'),
+              counted(history.directives, 'entry', 'entries')]
+    return f'{", ".join(counts)} of directives. {end} at tick {history.now:,}.'
 
 
 def left_out(history):
     """What isn't drawn, in sentences."""
     lines = []
     if history.first > 0 or history.last < history.now:
-        lines.append(f'Drawn are the ticks from {history.first:,} to {history.last:,} of {history.now:,}; --ticks FROM TO '
-                     'draws others.')
+        lines.append(f'Drawn are the ticks from {history.first:,} to {history.last:,} of {history.now:,}; '
+                     '--ticks FROM TO draws others.')
     if history.directives_in_window > len(history.marks):
-        lines.append(f'{history.directives_in_window - len(history.marks):,} entries of directives have no mark: only the '
-                     f'first {told.GREATEST_MARKS:,} of these ticks, up to tick {history.marks[-1].tick:,}, have one.')
+        lines.append(f'{history.directives_in_window - len(history.marks):,} entries of directives have no mark: only '
+                     f'the first {told.GREATEST_MARKS:,} of these ticks, up to tick {history.marks[-1].tick:,}, have one.')
     if history.unknown_count:
         lines.append(f'{history.unknown_count:,} lines are of kinds that are not drawn; the first are: '
                      + '; '.join(history.unknown) + '.')
@@ -101,4 +102,5 @@ def page(history, svg, name):
     parts.append(notes(history))
     head = (element('meta', charset='utf-8') + element('meta', name='viewport', content='width=device-width')
             + element('title', escape(heading)) + element('style', STYLE))
-    return '<!DOCTYPE html>\n' + element('html', element('head', head) + element('body', '\n'.join(parts)), lang='en') + '\n'
+    body = element('body', '\n'.join(parts))
+    return '<!DOCTYPE html>\n' + element('html', element('head', head) + body, lang='en') + '\n'

@@ -46,7 +46,7 @@ class Scenario:
         raise IndexError(processor)
 
     def words_at(self, body, line):
-        """The words of a line of a body, `task.exit` for the one behind its last, and none where there is no such line."""
+        """The words of a line of a body, `task.exit` for the one behind its last, and none for others."""
         lines = self.bodies.get(body)
         if lines is None or line > len(lines) + 1:
             return []

@@ -1,8 +1,8 @@
 """Reads the text of a schedule, line by line, and feeds a history with it.
 
-It takes any version, and judges no more than a picture needs: each line has a form, ticks follow each other, and no task
-contradicts itself. Whether a schedule is legal is what `./rtems_smp check` says. Version 1 has no other lines than those
-of docs/schedule-format.md; in another version lines of other kinds are counted and not drawn.
+It takes any version, and judges no more than a picture needs: each line has a form, ticks follow each other, and no
+task contradicts itself. Whether a schedule is legal is what `./rtems_smp check` says. Version 1 has no other lines than
+those of docs/schedule-format.md; in another version lines of other kinds are counted and not drawn.
 """
 import re
 
@@ -40,7 +40,7 @@ def read_schedule(source, history):
 
 
 def lines_of(source):
-    """The lines of a source of bytes, each with its line feed; the last may lack it, and so does one that is too long."""
+    """The lines of a source of bytes, each with its line feed, which the last may lack; a too long one ends them."""
     left = ''
     while True:
         block = source.read(BLOCK)
@@ -114,8 +114,9 @@ class Reader:
         processor, task, body, line, word, waits, form, status, out = found.groups()
         if len(self._directives) >= DIRECTIVES_KEPT:
             self._directives.clear()
-        self._directives[text] = directive = Directive(int(processor), int(task), (body, int(line)), word, waits or form,
-                                                       int(status or 0), int(out or '0', 16), text)
+        directive = Directive(int(processor), int(task), (body, int(line)), word, waits or form, int(status or 0),
+                              int(out or '0', 16), text)
+        self._directives[text] = directive
         return directive
 
     def _take_closing(self, text):

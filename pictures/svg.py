@@ -1,8 +1,8 @@
 """Elements of SVG and HTML as text, and the colours and patterns of tasks.
 
-The colours are six of the eight that Okabe and Ito chose for colour-blind readers; black is for outlines and red for what
-failed. A task's colour and its pattern go round with different lengths, so that thirty tasks in a row look unlike each
-other, and neighbours differ in black and white too. The number of the task stands beside them everywhere.
+The colours are six of the eight that Okabe and Ito chose for colour-blind readers; black is for outlines and red for
+what failed. A task's colour and its pattern go round with different lengths, so that thirty tasks in a row look unlike
+each other, and neighbours differ in black and white too. The number of the task stands beside them everywhere.
 """
 from functools import cache
 from html import escape
