@@ -90,7 +90,7 @@ class Drawing:
         self.turns = grouped(history.stretches, lambda stretch: stretch.task)
         self.waits = grouped(history.waits, lambda wait: wait.task)
         self.marks = grouped(history.marks, lambda mark: mark.task)
-        self.letters = {}       # of the words of waits those that were drawn as a letter
+        self.words = set()      # those of the waits that were drawn
 
     def draw(self):
         """The SVG's text."""
@@ -230,8 +230,7 @@ class Drawing:
                   f'from tick {wait.start} to {wait.end}')
         drawn = element('rect', title(spoken), x=x, y=y + 1, width=float(width), height=BAR - 2, fill='#f4f4f4',
                         stroke='#777', stroke_width=0.8, class_='wait')
-        if width_of(wait.word, SMALL) + 4 > width:
-            self.letters[wait.word[0]] = wait.word
+        self.words.add(wait.word)
         return drawn + fitting([wait.word, wait.word[0]], x, width, y)
 
     def row_marks(self, task, band, y, places):
@@ -377,7 +376,7 @@ def legend_items(drawing):
                       'task 1 runs in place of task 2, which spins, or took its processor'))
     if any(stretch.helper() is None and stretch.foreign for stretch in stretches):
         items.append((sample('url(#run-1)', '1', '#333', '5 3'), 'task 1 runs in place of one that is not told'))
-    items += [(sample('#f4f4f4', letter), f'waits in {word}') for letter, word in sorted(drawing.letters.items())]
+    items += [(sample('#f4f4f4', word[0]), f'waits in {word}') for word in sorted(drawing.words)]
     if any(start < end for lives in drawing.history.lives.values() for start, end in lives):
         items.append((line_sample, 'ready, suspended or dormant: which is not told'))
     kinds = {mark.kind for mark in drawing.history.marks}
