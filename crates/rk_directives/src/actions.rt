@@ -78,7 +78,6 @@ fn perform_narrow(
     requires bodies { AreRunnable scenario.now.bodies }
     requires near { IsNear op }
     requires owned { OwnersLive clusters.old groups.old }
-    requires prios { HavePriorities clusters.old groups.old }
     requires each { HaveEachPriority clusters.old groups.old }
     ensures { DoesBoth scenario.now (λ k. directive k caller (Some op)) result clusters.old groups.old clusters.new groups.new }
 {
@@ -227,7 +226,6 @@ fn perform(all: &mut AllParts, caller: ThreadIx, op: Op) -> Answer
     requires acts { IsActing (plain_of all.old) caller }
     requires whole { AreWhole all.old }
     requires near { IsNear op }
-    requires prios { HavePriorities all.old.clusters all.old.groups }
     requires each { HaveEachPriority all.old.clusters all.old.groups }
     ensures { DoesAll (directive (plain_of all.old) caller (Some op)) result all.old all.new }
 {
@@ -288,7 +286,6 @@ fn perform_at(all: &mut AllParts, caller: ThreadIx, op: Option<Op>) -> Answer
     requires acts { IsActing (plain_of all.old) caller }
     requires whole { AreWhole all.old }
     requires near { IfSome op IsNear }
-    requires prios { HavePriorities all.old.clusters all.old.groups }
     requires each { HaveEachPriority all.old.clusters all.old.groups }
     ensures { DoesAll (directive (plain_of all.old) caller op) result all.old all.new }
 {
@@ -304,7 +301,6 @@ pub fn action(all: &mut AllParts, caller: ThreadIx, thread: &Thread) -> Answer
     requires acts { IsActing (plain_of all.old) caller }
     requires whole { AreWhole all.old }
     requires thread { thread.now ≡ thread_at (plain_of all.old) caller }
-    requires prios { HavePriorities all.old.clusters all.old.groups }
     requires each { HaveEachPriority all.old.clusters all.old.groups }
     ensures { DoesAll (action (plain_of all.old) caller) result all.old all.new }
 {

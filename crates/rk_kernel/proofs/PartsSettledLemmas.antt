@@ -26,7 +26,7 @@ use Rattle.rk_model.specs.Scheduling.Seats.{cpu_count}
 use Rattle.rk_model.specs.Text.Scenarios.{cpus_in}
 use Rattle.rk_parts.specs.Hosted.{AreHosted, ShowRunning}
 use Rattle.rk_parts.specs.Seats.{seat_in}
-use Rattle.rk_parts.proofs.AccountLemmas.{home_prio_is, homes_noted, joined_flat, layouts_flat, lent_flat, lent_noted, lives_noted, stored_flat, prio_is}
+use Rattle.rk_parts.proofs.AccountLemmas.{homes_noted, joined_flat, layouts_flat, lent_flat, lent_noted, lives_noted, stored_flat, prio_is}
 use Rattle.rk_parts.proofs.ContributionLemmas.{flat_holdings}
 use Rattle.rk_parts.proofs.HeldLemmas.{found_lives, held_found, held_nowhere}
 use Rattle.rk_parts.proofs.HoldingLemmas.{held_kept}
@@ -36,7 +36,7 @@ use Rattle.rk_parts.proofs.LentTimerLemmas.{number_found}
 use Rattle.rk_parts.proofs.PutLemmas.{length_clusters}
 use Rattle.rk_parts.proofs.SettledPartLemmas.{same_stored, thread_any}
 use Rattle.rk_parts.proofs.WholeLemmas.{Keeps, lent_whole, ticks_framed, semaphores_framed, barriers_framed, partitions_framed, periods_framed, whole_settled, plain_settled, all_noted_settled}
-use Rattle.rk_directives.specs.Does.{HavePriorities, Untouched, untouched, HaveEachPriority, lent_both}
+use Rattle.rk_directives.specs.Does.{Untouched, untouched, HaveEachPriority, lent_both}
 use Rattle.rk_directives.proofs.DirectiveLemmas.LentLemmas.{home_known}
 use Rattle.rk_directives.proofs.KeptHoldingLemmas.{same_owners, still_held}
 use Rattle.rk_kernel.specs.Ready.{IsSettled, IsReady}
@@ -150,10 +150,6 @@ home_lent all t whole few = number_found counts all.clusters home home (lie coun
   less : home < 4
   less = below (has_begun (thread_lent all.clusters t).life) refl
 
--- the priorities that the parts have are those of the state that they stand for, at home
-pub have_priorities : (all : AllParts) → AreWhole all → AreNoted (length all.scenario.clusters) all.clusters → length all.scenario.clusters ≤ 4 → HavePriorities all.clusters all.groups
-have_priorities all whole noted few t one = home_prio_is no_scenario no_objects all.groups all.clusters (thread_lent all.clusters t).home t whole.held noted.shares (home_lent all t whole few) one
-
 -- where the part of a cluster isn't lent, the parts have no priority there,
 prio_nowhere : (parts : List ClusterPart) (t c : ℕ) → number_in parts c ≡ None → prio_lent parts t c ≡ None
 prio_nowhere [] t c none = refl
@@ -176,7 +172,7 @@ nothing_lent all t c u whole few none =
       by true = refl
       by false = refl
 
--- and so they are in each cluster
+-- the priorities that the parts have are those of the state that they stand for, in each cluster
 pub have_each_priority : (all : AllParts) → AreWhole all → AreNoted (length all.scenario.clusters) all.clusters → length all.scenario.clusters ≤ 4 → HaveEachPriority all.clusters all.groups
 have_each_priority all whole noted few t c one = by (number_in all.clusters c) refl where
   by : (o : Option ℕ) → number_in all.clusters c ≡ o → prio_lent all.clusters t c ≡ prio (lent_both all.clusters all.groups) t c

@@ -15,7 +15,7 @@ use Rattle.rk_model.specs.declared.state.Wait.{Wait}
 use Rattle.rk_model.specs.declared.state.Wait.TheVariants.{ForTime}
 use Rattle.rk_model.specs.declared.limits.TheConstants.{LEAST_URGENT}
 use Rattle.rk_model.specs.Lists.{nth}
-use Rattle.rk_model.specs.Scheduling.Priorities.{contribution, home_prio, is_behind, own, prio}
+use Rattle.rk_model.specs.Scheduling.Priorities.{contribution, home_prio, is_behind, or_least_urgent, own, prio}
 use Rattle.rk_model.specs.Names.{Table}
 use Rattle.rk_model.specs.State.{Plain, no_thread, thread_at, put_thread}
 use Rattle.rk_model.specs.Scheduling.Timers.{times_armed, arm, cancel, without_timer}
@@ -44,7 +44,7 @@ use Rattle.rk_parts.proofs.HeldLemmas.{lives_found, found_lives, held_found}
 use Rattle.rk_parts.proofs.LayoutLemmas.{lie}
 use Rattle.rk_parts.proofs.SettledPartLemmas.{thread_any}
 use Rattle.rk_directives.specs.Calls.{IsActing}
-use Rattle.rk_directives.specs.Does.{Becomes, BecomesBoth, BecomesEvery, Does, DoesBoth, DoesEvery, DoesGroups, DoesWide, DoesAll, Tells, lent_both, with_table}
+use Rattle.rk_directives.specs.Does.{Becomes, BecomesBoth, BecomesEvery, Does, DoesBoth, DoesEvery, DoesGroups, DoesWide, DoesAll, HaveEachPriority, HavePriorities, Tells, lent_both, with_table}
 use Rattle.rk_directives.proofs.KeptHoldingLemmas.{still_held, left_owners}
 use Rattle.rk_directives.proofs.OutcomeLemmas.{none_armed}
 
@@ -237,6 +237,11 @@ waits s row change old new is becomes = record {
 -- a sleep stands in no queue
 pub later : (old new : List ClusterPart) (t ticks : ℕ) (s : Scenario) → Becomes s (λ k. start_limited k t ForTime ticks) old new → Becomes s (λ k. begin_limited k t ForTime ticks) old new
 later old new t ticks s becomes = record { state = becomes.state; kept = becomes.kept; held = becomes.held }
+
+-- parts that have the priorities in each cluster have those at home
+pub home_priorities : (parts : List ClusterPart) (groups : List GroupPart) → HaveEachPriority parts groups → HavePriorities parts groups
+unfolding home_prio
+home_priorities parts groups each t one = ap or_least_urgent (each t (thread_lent parts t).home one)
 
 -- the priority of a thread in its home is the same in each state that the parts stand for
 pub home_prio_lent : (s : Scenario) (table : Table) (parts : List ClusterPart) (groups : List GroupPart) (t : ℕ) → home_prio (lent_both parts groups) t ≡ home_prio (joined s table parts groups) t

@@ -2,7 +2,7 @@ use Rattle.std.proofs.Common.{refl}
 use Rattle.rk_model.specs.declared.ids.Class.TheVariants.{Task, Barrier, Partition, Period}
 use Rattle.rk_parts.specs.Joined.{plain_of}
 use Rattle.rk_parts.proofs.WholeLemmas.{all_groups_lent, all_partitions_lent, all_periods_lent}
-use Rattle.rk_directives.proofs.DirectiveLemmas.LentLemmas.{all_both, all_grouped, all_wide, all_tells, caller_unarmed, caller_lent}
+use Rattle.rk_directives.proofs.DirectiveLemmas.LentLemmas.{all_both, all_grouped, all_wide, all_tells, caller_unarmed, caller_lent, home_priorities}
 use Rattle.rk_directives.proofs.DirectiveLemmas.PeriodsLemmas.{may_call}
 use Rattle.rk_directives.proofs.actions.perform.Goals as goal
 
@@ -47,6 +47,9 @@ perform_narrow-requires-clause-queue c = λ object _ t. c.requires.acts.sound.ti
 
 pub perform_narrow-requires-clause-owned : goal.perform_narrow-requires-clause-owned
 perform_narrow-requires-clause-owned c = λ i t owner. c.requires.acts.sound.chained.owners i t owner
+
+pub perform_semaphore_create-requires-clause-prios : goal.perform_semaphore_create-requires-clause-prios
+perform_semaphore_create-requires-clause-prios c = home_priorities c.args.all.now.clusters c.args.all.now.groups c.requires.each
 
 pub returns-in-TaskCreate : goal.returns-in-TaskCreate
 returns-in-TaskCreate c = rw c.in-TaskCreate.is (all_wide c.args.all.now _ _ _ _ c.requires.whole (c.task_create.ensures c.args.all.now.scenario))

@@ -1,6 +1,6 @@
 use Rattle.std.proofs.Common.{subst}
 use Rattle.rk_model.specs.Limits.{IsNear}
-use Rattle.rk_directives.proofs.DirectiveLemmas.LentLemmas.{does_both}
+use Rattle.rk_directives.proofs.DirectiveLemmas.LentLemmas.{does_both, home_priorities}
 use Rattle.rk_directives.proofs.actions.perform_narrow.Goals as goal
 
 pub returns-in-TaskStart : goal.returns-in-TaskStart
@@ -11,6 +11,9 @@ returns-in-TaskSuspend c = rw c.in-TaskSuspend.is (does_both _ _ _ _ _ _ (c.task
 
 pub returns-in-TaskResume : goal.returns-in-TaskResume
 returns-in-TaskResume c = rw c.in-TaskResume.is (does_both _ _ _ _ _ _ (c.task_resume.ensures c.args.scenario.now))
+
+pub task_set_priority-requires-clause-prios : goal.task_set_priority-requires-clause-prios
+task_set_priority-requires-clause-prios c = home_priorities c.args.clusters.now c.args.groups.now c.requires.each
 
 pub returns-in-TaskSetPriority : goal.returns-in-TaskSetPriority
 returns-in-TaskSetPriority c = rw c.in-TaskSetPriority.is (c.task_set_priority.ensures c.args.scenario.now)
@@ -33,8 +36,14 @@ returns-in-Goto c = rw c.in-Goto.is (does_both _ _ _ _ _ _ (c.task_exit-in-Goto.
 pub returns-in-EventSend : goal.returns-in-EventSend
 returns-in-EventSend c = rw c.in-EventSend.is (c.event_send.ensures c.args.scenario.now)
 
+pub semaphore_obtain-requires-clause-prios : goal.semaphore_obtain-requires-clause-prios
+semaphore_obtain-requires-clause-prios c = home_priorities c.args.clusters.now c.args.groups.now c.requires.each
+
 pub returns-in-SemObtain : goal.returns-in-SemObtain
 returns-in-SemObtain c = rw c.in-SemObtain.is (c.semaphore_obtain.ensures c.args.scenario.now)
+
+pub semaphore_release-requires-clause-prios : goal.semaphore_release-requires-clause-prios
+semaphore_release-requires-clause-prios c = home_priorities c.args.clusters.now c.args.groups.now c.requires.each
 
 pub returns-in-SemRelease : goal.returns-in-SemRelease
 returns-in-SemRelease c = rw c.in-SemRelease.is (c.semaphore_release.ensures c.args.scenario.now)

@@ -13,7 +13,7 @@ use Rattle.rk_kernel.proofs.CallerLemmas.{acting_of}
 use Rattle.rk_directives.proofs.KeptHoldingLemmas.{still_held}
 use Rattle.rk_directives.proofs.DirectiveLemmas.LentLemmas.{laid_kept}
 use Rattle.rk_directives.proofs.DirectiveLemmas.ActionLemmas.{action_done, line_after, bodies_after, lives_after, followed}
-use Rattle.rk_kernel.proofs.PartsSettledLemmas.{as_settled, few_clusters, framed_contributes, have_each_priority, have_priorities, IsChanged, settled}
+use Rattle.rk_kernel.proofs.PartsSettledLemmas.{as_settled, few_clusters, framed_contributes, have_each_priority, IsChanged, settled}
 use Rattle.rk_kernel.proofs.steps.act_by.Goals as goal
 
 pub action-answer-requires-clause-acts : goal.action-answer-requires-clause-acts
@@ -42,9 +42,6 @@ contribute-requires-clause-lives c =
 pub contribute-requires-clause-homes : goal.contribute-requires-clause-homes
 contribute-requires-clause-homes c =
     (framed_contributes c.args.all.now c.action-answer.new.all.clusters c.conclude-reply.new.clusters c.requires.ready c.action-answer.ensures.laid c.action-answer.ensures.kept c.action-answer.ensures.accounts c.conclude-reply.ensures.next.kept).homes
-
-pub action-answer-requires-clause-prios : goal.action-answer-requires-clause-prios
-action-answer-requires-clause-prios c = have_priorities c.args.all.now c.requires.ready.whole c.requires.ready.noted (few_clusters c.args.all.now c.requires.ready)
 
 pub action-answer-requires-clause-each : goal.action-answer-requires-clause-each
 action-answer-requires-clause-each c = have_each_priority c.args.all.now c.requires.ready.whole c.requires.ready.noted (few_clusters c.args.all.now c.requires.ready)
