@@ -1,8 +1,8 @@
 -- The threads that act.
-use Rattle.std.specs.Prelude.{ℕ, ◌≡◌, ◌<◌, ◌≤◌, Option, Some, None, if◌then◌else◌}
+use Rattle.std.specs.Prelude.{ℕ, ◌≡◌, ◌<◌, ◌≤◌, Bool, true, false, Option, Some, None, if◌then◌else◌}
 use Rattle.rk_model.specs.declared.ids.Class.TheVariants.{Semaphore, Barrier, Period}
 use Rattle.rk_model.specs.declared.scenario.Op.{Op}
-use Rattle.rk_model.specs.declared.scenario.Op.TheVariants.{SemObtain, SemRelease, SemFlush, SemDelete, BarrierWait, BarrierRelease, BarrierDelete, PeriodPeriod, PeriodCancel}
+use Rattle.rk_model.specs.declared.scenario.Op.TheVariants.{TaskCreate, SemCreate, SemObtain, SemRelease, SemFlush, SemDelete, SemSetPriority, BarrierCreate, BarrierWait, BarrierRelease, BarrierDelete, PartCreate, PartGet, PartReturn, PeriodCreate, PeriodPeriod, PeriodCancel}
 use Rattle.rk_model.specs.declared.scenario.Wish.{Wish}
 use Rattle.rk_model.specs.declared.scenario.Wish.TheVariants.{NoWait, Limit}
 use Rattle.rk_model.specs.Directives.Objects.{object_named}
@@ -29,6 +29,29 @@ pub record IsCaller (k : Plain) (t : ℕ) : Type 0 where
   pub acts : IsActing k t
   pub line : (thread_at k t).line ≤ MOST_LINES
   pub returns_not : (thread_at k t).finished ≡ None
+
+-- whether a line makes an object
+abbrev pub makes_object : Op → Bool
+makes_object (TaskCreate name prio var) = true
+makes_object (SemCreate name count kind order _ ceiling var) = true
+makes_object (BarrierCreate name automatic most var) = true
+makes_object (PartCreate name start length size var) = true
+makes_object (PeriodCreate name var) = true
+makes_object op = false
+
+-- whether a line is a narrow directive on a semaphore, a barrier, a partition or a period
+abbrev pub is_on_object : Op → Bool
+is_on_object (SemObtain id wish) = true
+is_on_object (SemRelease id) = true
+is_on_object (SemFlush id) = true
+is_on_object (SemSetPriority id cluster prio var) = true
+is_on_object (BarrierWait id ticks) = true
+is_on_object (BarrierRelease id var) = true
+is_on_object (PartGet id var) = true
+is_on_object (PartReturn id address) = true
+is_on_object (PeriodPeriod id length) = true
+is_on_object (PeriodCancel id) = true
+is_on_object op = false
 
 -- a barrier and a semaphore of these indices as objects with a queue
 abbrev pub of_barrier : Option ℕ → Option Object

@@ -19,7 +19,7 @@ ghost use Rattle.rk_model.specs.Directives.Semaphores.{semaphore_create, semapho
 ghost use Rattle.rk_model.specs.Directives.Tasks.{task_delete};
 ghost use Rattle.rk_model.specs.Directives.Waits.{Object};
 ghost use Rattle.rk_directives.specs.Does.{HaveEachPriority, HavePriorities, Does, DoesAll, DoesBoth, IsQueueOf, MayCall, OwnersLive, lent_both};
-ghost use Rattle.rk_directives.specs.Calls.{IsActing, period_called, queue_named};
+ghost use Rattle.rk_directives.specs.Calls.{IsActing, is_on_object, makes_object, period_called, queue_named};
 ghost use Rattle.rk_parts.specs.Holdings.{AreHeld, holdings};
 ghost use Rattle.rk_groups.specs.GroupObjects.{semaphores_of};
 ghost use Rattle.rk_parts.specs.Joined.{plain_of, thread_lent, timers_lent};
@@ -60,7 +60,43 @@ fn back(clusters: &mut [ClusterPart], caller: ThreadIx, reply: Reply) -> Answer
     Answer::Done(reply.status, reply.out, None)
 }
 
-/// Does the narrow directive of a line.
+/// Does the narrow directive of a line on a semaphore, a barrier, a partition or a period.
+fn perform_on_object(
+    clusters: &mut [ClusterPart],
+    groups: &mut [GroupPart],
+    caller: ThreadIx,
+    op: Op,
+) -> Answer
+    requires object { is_on_object op ≡ true }
+    requires lives { has_begun (thread_lent clusters.old caller).life ≡ true }
+    requires unarmed { times_armed (OfThread caller) (timers_lent clusters.old caller) ≡ 0 }
+    requires free { (thread_lent clusters.old caller).wait ≡ None }
+    requires held { AreHeld (holdings clusters.old) (semaphores_of groups.old) }
+    requires queue { (object : Object) → queue_named (lent_both clusters.old groups.old) caller op ≡ Some object → IsQueueOf clusters.old groups.old object }
+    requires period { (i : ℕ) → period_called (lent_both clusters.old groups.old) caller op ≡ Some i → MayCall clusters.old groups.old i caller }
+    requires near { IsNear op }
+    requires owned { OwnersLive clusters.old groups.old }
+    requires prios { HavePriorities clusters.old groups.old }
+    ensures { (s : ScenarioView) → DoesBoth s (λ k. directive k caller (Some op)) result clusters.old groups.old clusters.new groups.new }
+{
+    match op {
+        Op::SemObtain(id, wish) => semaphore_obtain(clusters, groups, caller, id, wish),
+        Op::SemRelease(id) => semaphore_release(clusters, groups, caller, id),
+        Op::SemFlush(id) => semaphore_flush(clusters, groups, caller, id),
+        Op::SemSetPriority(id, cluster, prio, _) => {
+            semaphore_set_priority(clusters, groups, caller, id, cluster, prio)
+        }
+        Op::BarrierWait(id, ticks) => barrier_wait(clusters, groups, caller, id, ticks),
+        Op::BarrierRelease(id, _) => barrier_release(clusters, groups, caller, id),
+        Op::PartGet(id, _) => partition_get(clusters, groups, caller, id),
+        Op::PartReturn(id, address) => partition_return(clusters, groups, caller, id, address),
+        Op::PeriodPeriod(id, length) => period_period(clusters, groups, caller, id, length),
+        Op::PeriodCancel(id) => period_cancel(clusters, groups, caller, id),
+        _ => unreachable!(),
+    }
+}
+
+/// Does the narrow directive of a line: on a task or its events here, or on an object of a group.
 fn perform_narrow(
     scenario: &Scenario,
     clusters: &mut [ClusterPart],
@@ -92,35 +128,9 @@ fn perform_narrow(
         Op::TaskWakeAfter(ticks) => task_wake_after(clusters, caller, ticks),
         Op::EventSend(id, set) => event_send(clusters, groups, caller, id, set),
         Op::EventReceive(set, all, wish, _) => event_receive(clusters, caller, set, all, wish),
-        Op::SemObtain(id, wish) => semaphore_obtain(clusters, groups, caller, id, wish),
-        Op::SemRelease(id) => semaphore_release(clusters, groups, caller, id),
-        Op::SemFlush(id) => semaphore_flush(clusters, groups, caller, id),
-        Op::SemSetPriority(id, cluster, prio, _) => {
-            semaphore_set_priority(clusters, groups, caller, id, cluster, prio)
-        }
-        Op::BarrierWait(id, ticks) => barrier_wait(clusters, groups, caller, id, ticks),
-        Op::BarrierRelease(id, _) => barrier_release(clusters, groups, caller, id),
-        Op::PartGet(id, _) => partition_get(clusters, groups, caller, id),
-        Op::PartReturn(id, address) => partition_return(clusters, groups, caller, id, address),
-        Op::PeriodPeriod(id, length) => period_period(clusters, groups, caller, id, length),
-        Op::PeriodCancel(id) => period_cancel(clusters, groups, caller, id),
         Op::Work(_) => task_exit(clusters, caller),
         Op::Goto(_) => task_exit(clusters, caller),
-        Op::TaskCreate(_, _, _)
-        | Op::TaskIdent(_, _)
-        | Op::TaskDelete(_)
-        | Op::SemCreate(_, _, _, _, _, _, _)
-        | Op::SemIdent(_, _)
-        | Op::SemDelete(_)
-        | Op::BarrierCreate(_, _, _, _)
-        | Op::BarrierIdent(_, _)
-        | Op::BarrierDelete(_)
-        | Op::PartCreate(_, _, _, _, _)
-        | Op::PartIdent(_, _)
-        | Op::PartDelete(_)
-        | Op::PeriodCreate(_, _)
-        | Op::PeriodIdent(_, _)
-        | Op::PeriodDelete(_) => unreachable!(),
+        _ => perform_on_object(clusters, groups, caller, op),
     }
 }
 
@@ -221,6 +231,37 @@ fn perform_period_delete(all: &mut AllParts, caller: ThreadIx, id: Target) -> An
     )
 }
 
+/// Does the directive of a line that makes no object: finds or deletes one here, or does a narrow
+/// directive.
+fn perform_known(all: &mut AllParts, caller: ThreadIx, op: Op) -> Answer
+    requires known { makes_object op ≡ false }
+    requires acts { IsActing (plain_of all.old) caller }
+    requires whole { AreWhole all.old }
+    requires near { IsNear op }
+    requires each { HaveEachPriority all.old.clusters all.old.groups }
+    ensures { DoesAll (directive (plain_of all.old) caller (Some op)) result all.old all.new }
+{
+    match op {
+        Op::TaskIdent(name, _) => task_ident(&all.table.names, name),
+        Op::TaskDelete(id) => perform_task_delete(all, caller, id),
+        Op::SemIdent(name, _) => semaphore_ident(&all.table.names, name),
+        Op::SemDelete(id) => perform_semaphore_delete(all, caller, id),
+        Op::BarrierIdent(name, _) => barrier_ident(&all.table.names, name),
+        Op::BarrierDelete(id) => perform_barrier_delete(all, caller, id),
+        Op::PartIdent(name, _) => partition_ident(&all.table.names, name),
+        Op::PartDelete(id) => perform_partition_delete(all, caller, id),
+        Op::PeriodIdent(name, _) => period_ident(&all.table.names, name),
+        Op::PeriodDelete(id) => perform_period_delete(all, caller, id),
+        _ => perform_narrow(
+            &all.scenario,
+            &mut all.clusters,
+            &mut all.groups,
+            caller,
+            op,
+        ),
+    }
+}
+
 /// Does the directive of a line.
 fn perform(all: &mut AllParts, caller: ThreadIx, op: Op) -> Answer
     requires acts { IsActing (plain_of all.old) caller }
@@ -233,8 +274,6 @@ fn perform(all: &mut AllParts, caller: ThreadIx, op: Op) -> Answer
         Op::TaskCreate(name, prio, _) => {
             task_create(&mut all.clusters, &mut all.table.names, caller, name, prio)
         }
-        Op::TaskIdent(name, _) => task_ident(&all.table.names, name),
-        Op::TaskDelete(id) => perform_task_delete(all, caller, id),
         Op::SemCreate(name, count, kind, order, protocol, ceiling, _) => {
             let spec = SemSpec {
                 count,
@@ -245,8 +284,6 @@ fn perform(all: &mut AllParts, caller: ThreadIx, op: Op) -> Answer
             };
             perform_semaphore_create(all, caller, name, spec)
         }
-        Op::SemIdent(name, _) => semaphore_ident(&all.table.names, name),
-        Op::SemDelete(id) => perform_semaphore_delete(all, caller, id),
         Op::BarrierCreate(name, automatic, most, _) => barrier_create(
             &mut all.groups,
             &mut all.table.names,
@@ -254,8 +291,6 @@ fn perform(all: &mut AllParts, caller: ThreadIx, op: Op) -> Answer
             automatic,
             most,
         ),
-        Op::BarrierIdent(name, _) => barrier_ident(&all.table.names, name),
-        Op::BarrierDelete(id) => perform_barrier_delete(all, caller, id),
         Op::PartCreate(name, start, length, size, _) => partition_create(
             &mut all.groups,
             &mut all.table.names,
@@ -264,20 +299,10 @@ fn perform(all: &mut AllParts, caller: ThreadIx, op: Op) -> Answer
             length,
             size,
         ),
-        Op::PartIdent(name, _) => partition_ident(&all.table.names, name),
-        Op::PartDelete(id) => perform_partition_delete(all, caller, id),
         Op::PeriodCreate(name, _) => {
             period_create(&mut all.groups, &mut all.table.names, caller, name)
         }
-        Op::PeriodIdent(name, _) => period_ident(&all.table.names, name),
-        Op::PeriodDelete(id) => perform_period_delete(all, caller, id),
-        _ => perform_narrow(
-            &all.scenario,
-            &mut all.clusters,
-            &mut all.groups,
-            caller,
-            op,
-        ),
+        _ => perform_known(all, caller, op),
     }
 }
 

@@ -1,5 +1,3 @@
-use Rattle.std.proofs.Common.{subst}
-use Rattle.rk_model.specs.Limits.{IsNear}
 use Rattle.rk_directives.proofs.DirectiveLemmas.LentLemmas.{does_both, home_priorities}
 use Rattle.rk_directives.proofs.actions.perform_narrow.Goals as goal
 
@@ -36,41 +34,8 @@ returns-in-Goto c = rw c.in-Goto.is (does_both _ _ _ _ _ _ (c.task_exit-in-Goto.
 pub returns-in-EventSend : goal.returns-in-EventSend
 returns-in-EventSend c = rw c.in-EventSend.is (c.event_send.ensures c.args.scenario.now)
 
-pub semaphore_obtain-requires-clause-prios : goal.semaphore_obtain-requires-clause-prios
-semaphore_obtain-requires-clause-prios c = home_priorities c.args.clusters.now c.args.groups.now c.requires.each
+pub perform_on_object-requires-clause-prios : goal.perform_on_object-requires-clause-prios
+perform_on_object-requires-clause-prios c = home_priorities c.args.clusters.now c.args.groups.now c.requires.each
 
-pub returns-in-SemObtain : goal.returns-in-SemObtain
-returns-in-SemObtain c = rw c.in-SemObtain.is (c.semaphore_obtain.ensures c.args.scenario.now)
-
-pub semaphore_release-requires-clause-prios : goal.semaphore_release-requires-clause-prios
-semaphore_release-requires-clause-prios c = home_priorities c.args.clusters.now c.args.groups.now c.requires.each
-
-pub returns-in-SemRelease : goal.returns-in-SemRelease
-returns-in-SemRelease c = rw c.in-SemRelease.is (c.semaphore_release.ensures c.args.scenario.now)
-
-pub returns-in-SemFlush : goal.returns-in-SemFlush
-returns-in-SemFlush c = rw c.in-SemFlush.is (c.semaphore_flush.ensures c.args.scenario.now)
-
-pub semaphore_set_priority-requires-clause-near : goal.semaphore_set_priority-requires-clause-near
-semaphore_set_priority-requires-clause-near c = subst IsNear c.in-SemSetPriority.is c.requires.near
-
-pub returns-in-SemSetPriority : goal.returns-in-SemSetPriority
-returns-in-SemSetPriority c = rw c.in-SemSetPriority.is (c.semaphore_set_priority.ensures c.args.scenario.now)
-
-pub returns-in-BarrierWait : goal.returns-in-BarrierWait
-returns-in-BarrierWait c = rw c.in-BarrierWait.is (c.barrier_wait.ensures c.args.scenario.now)
-
-pub returns-in-BarrierRelease : goal.returns-in-BarrierRelease
-returns-in-BarrierRelease c = rw c.in-BarrierRelease.is (c.barrier_release.ensures c.args.scenario.now)
-
-pub returns-in-PartGet : goal.returns-in-PartGet
-returns-in-PartGet c = rw c.in-PartGet.is (c.partition_get.ensures c.args.scenario.now)
-
-pub returns-in-PartReturn : goal.returns-in-PartReturn
-returns-in-PartReturn c = rw c.in-PartReturn.is (c.partition_return.ensures c.args.scenario.now)
-
-pub returns-in-PeriodPeriod : goal.returns-in-PeriodPeriod
-returns-in-PeriodPeriod c = rw c.in-PeriodPeriod.is (c.period_period.ensures c.args.scenario.now)
-
-pub returns-in-PeriodCancel : goal.returns-in-PeriodCancel
-returns-in-PeriodCancel c = rw c.in-PeriodCancel.is (c.period_cancel.ensures c.args.scenario.now)
+pub returns-in_default : goal.returns-in_default
+returns-in_default c = c.perform_on_object.ensures c.args.scenario.now
