@@ -1,3 +1,2 @@
 pub mod RegisterPassLemmas
-pub mod HighestBitLemmas
 pub mod AssignedLineLemmas

@@ -3,7 +3,6 @@
 
 mod assign;
 mod cluster;
-mod marks;
 mod moves;
 #[cfg(test)]
 mod tests;

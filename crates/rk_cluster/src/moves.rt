@@ -4,9 +4,9 @@ ghost use Rattle.rk_line.specs.Places.{without, with_prio};
 ghost use Rattle.rk_cluster.specs.Registers.{change_at, no_changes, with_change, end_place, fronts, ends, kept_places, moved};
 ghost use Rattle.rk_cluster.specs.Passes.{changed_but_end, IsOut, EndsAreOut, AreMarked};
 
-use crate::marks::{greatest, least, with, without};
 use rk_line::Line;
 use rk_model::limits::MOST_OBJECTS;
+use rk_model::marks::{greatest, least, with, without};
 use rk_model::{Items, NoMemory, Prio, ThreadIx};
 use std::alloc::Global;
 use std::marker::Model;

@@ -1,10 +1,10 @@
 //! Sets of the numbers from 0 to 63, as the bits of a number.
 
-ghost use Rattle.std.specs.Prelude.{◌≡◌, ◌≢◌, ℕ, ◌<◌};
+ghost use Rattle.std.specs.Prelude.{◌≡◌, ◌≢◌, ℕ, ◌<◌, ◌≤◌};
 ghost use Rattle.std.specs.Int.{bit_at};
 
 /// The set with one more number.
-pub(crate) fn with(set: u64, at: u8) -> u64
+pub fn with(set: u64, at: u8) -> u64
     requires { at < 64 }
     ensures there { bit_at result at ≡ 1 }
     ensures others { (i : ℕ) → i ≢ at → bit_at result i ≡ bit_at set i }
@@ -13,8 +13,9 @@ pub(crate) fn with(set: u64, at: u8) -> u64
 }
 
 /// The set without a number.
-pub(crate) fn without(set: u64, at: u8) -> u64
+pub fn without(set: u64, at: u8) -> u64
     requires { at < 64 }
+    ensures less { result ≤ set }
     ensures gone { bit_at result at ≡ 0 }
     ensures others { (i : ℕ) → i < 64 → i ≢ at → bit_at result i ≡ bit_at set i }
 {
@@ -22,7 +23,7 @@ pub(crate) fn without(set: u64, at: u8) -> u64
 }
 
 /// The least number of a set.
-pub(crate) fn least(set: u64) -> u8
+pub fn least(set: u64) -> u8
     requires { 0 < set }
     ensures within { result < 64 }
     ensures there { bit_at set result ≡ 1 }
@@ -32,7 +33,7 @@ pub(crate) fn least(set: u64) -> u8
 }
 
 /// The greatest number of a set.
-pub(crate) fn greatest(set: u64) -> u8
+pub fn greatest(set: u64) -> u8
     requires { 0 < set }
     ensures within { result < 64 }
     ensures there { bit_at set result ≡ 1 }

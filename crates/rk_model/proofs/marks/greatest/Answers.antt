@@ -1,6 +1,6 @@
 use Rattle.std.proofs.Common.{arith}
-use Rattle.rk_cluster.proofs.HighestBitLemmas.{top_of}
-use Rattle.rk_cluster.proofs.marks.greatest.Goals as goal
+use Rattle.rk_model.proofs.HighestBitLemmas.{top_of}
+use Rattle.rk_model.proofs.marks.greatest.Goals as goal
 
 pub returns-clause-there : goal.returns-clause-there
 returns-clause-there c = (top_of c.args.set c.requires (omega arith)).there

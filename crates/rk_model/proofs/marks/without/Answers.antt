@@ -1,6 +1,6 @@
 use Rattle.std.proofs.Common.{w64}
 use Rattle.std.proofs.lemmas.Nat.Bits.{bit_at_clear_same, bit_at_clear_other}
-use Rattle.rk_cluster.proofs.marks.without.Goals as goal
+use Rattle.rk_model.proofs.marks.without.Goals as goal
 
 pub returns-clause-gone : goal.returns-clause-gone
 returns-clause-gone c = rw c.from.ensures (bit_at_clear_same w64 c.args.set c.args.at c.requires)

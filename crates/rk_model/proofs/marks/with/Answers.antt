@@ -1,6 +1,6 @@
 use Rattle.std.proofs.Common.{w64}
 use Rattle.std.proofs.lemmas.Nat.Bits.{bit_at_set_same, bit_at_set_other}
-use Rattle.rk_cluster.proofs.marks.with.Goals as goal
+use Rattle.rk_model.proofs.marks.with.Goals as goal
 
 pub returns-clause-there : goal.returns-clause-there
 returns-clause-there c = rw c.from.ensures (bit_at_set_same w64 c.args.set c.args.at c.requires)
