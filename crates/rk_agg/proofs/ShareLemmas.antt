@@ -1,14 +1,17 @@
 -- Contributions: which are found after one was written, and which is the least.
-use Rattle.std.proofs.Common.{◌≡◌, ◌≢◌, ℕ, zero, suc, ◌+◌, ◌-◌, ◌<◌, ◌≤◌, List, Bool, true, false, cond, ◌&&◌, ◌==◌, Option, None, Some, is_some, ltb, length, get_or, set, replicate, arith, refl, sym, ap, ◌∙◌, ⊎_elim, length-set}
-use Rattle.std.proofs.lemmas.List.{get_or-set_same, get_or_read_under, get_or-replicate, get_or_past, length-replicate}
+use Rattle.std.proofs.Common.{◌≡◌, ◌≢◌, ℕ, zero, suc, ◌+◌, ◌-◌, ◌<◌, ◌≤◌, List, Bool, true, false, cond, ◌&&◌, ◌||◌, ◌==◌, not, Option, None, Some, is_some, ltb, length, get_or, set, replicate, arith, refl, sym, ap, ◌∙◌, ⊎_elim, length-set}
+use Rattle.std.proofs.lemmas.List.{get_or-set_same, get_or-set_other, get_or_read_under, get_or-replicate, get_or_past, length-replicate}
 use Rattle.std.proofs.lemmas.Bool.{false≢true, true≢false, cases_lt}
 use Rattle.std.proofs.lemmas.Bool.Decides.{nat_tests}
+use Rattle.rk_model.specs.IndexSets.{is_in, IsTaken}
+use Rattle.rk_model.specs.declared.index_set.IndexSet.{IndexSet}
 use Rattle.rk_model.specs.Lists.{nth}
 use Rattle.rk_model.specs.Queues.{lesser}
 use Rattle.rk_model.specs.Scheduling.Priorities.{lesser_of, least_of}
+use Rattle.rk_model.proofs.IndexSetLemmas.{none_in}
 use Rattle.rk_model.proofs.BooleanLemmas.{equal_test, same_number, and_front, and_back, and_false}
 use Rattle.rk_model.proofs.IndexLemmas.{nth-with_other}
-use Rattle.rk_agg.specs.Shares.{cell_of, found, is_one, is_row, is_same, is_same_prio, least_source, nones, row_of, with_found, AreLeast, Shares}
+use Rattle.rk_agg.specs.Shares.{cell_of, found, is_one, is_row, is_same, is_same_prio, least_source, no_indices, nones, row_at, row_of, set_at, with_found, AreIndexed, AreLeast, Shares}
 
 -- ---- the lesser of two priorities
 
@@ -228,32 +231,6 @@ least_left f t c u share least is some e other low high = by (f t c u) (least_so
 
 -- ---- the least so far
 
-least_more : (f : ℕ → Option ℕ) (i n : ℕ) → i < n → least_of f (i + 1) (n - i) ≡ lesser_of (f (i + 1)) (least_of f (i + 1 + 1) (n - (i + 1)))
-least_more f i n less = by (n - i) (n - (i + 1)) (omega (arith, less)) where
-  by : (m left : ℕ) → m ≡ suc left → least_of f (i + 1) m ≡ lesser_of (f (i + 1)) (least_of f (i + 1 + 1) left)
-  by m left e = rw e refl
-
--- the least of the first so many is this one
-abbrev pub IsLeastOf : (ℕ → Option ℕ) → ℕ → Option ℕ → Type 0
-IsLeastOf f i best = lesser_of best (least_of f (i + 1) (64 - i)) ≡ least_source f
-
-pub least_starts : (f : ℕ → Option ℕ) → IsLeastOf f 0 None
-unfolding least_source
-least_starts f = refl
-
-pub least_goes_on : (f : ℕ → Option ℕ) (i : ℕ) (best next one : Option ℕ) → i < 64 → one ≡ f (i + 1) → next ≡ lesser_of best one → IsLeastOf f i best → IsLeastOf f (i + 1) next
-least_goes_on f i best next one less is e so_far =
-    let rest = least_of f (i + 1 + 1) (64 - (i + 1)) in
-    ap (λ o. lesser_of o rest) (e ∙ ap (lesser_of best) is)
-    ∙ lesser_assoc best (f (i + 1)) rest
-    ∙ ap (lesser_of best) (sym (least_more f i 64 less))
-    ∙ so_far
-
-pub least_ends : (f : ℕ → Option ℕ) (i : ℕ) (best : Option ℕ) → 64 ≤ i → IsLeastOf f i best → best ≡ least_source f
-least_ends f i best more so_far =
-    let none : 64 - i ≡ 0 = omega (arith, more) in
-    sym (lesser_none best) ∙ (rw none at so_far)
-
 -- ---- the least of each thread in each cluster
 
 -- none contributes, so there is no least
@@ -275,7 +252,7 @@ elsewhere t c u s f v d other = λ i w. by (t == v) (c == d) w other i where
   by true false w other = refl
   by false b w other = refl
 
-pub least_written : (xs new least next : Shares) (t c u at : ℕ) (s p : Option ℕ) → AreLeast xs least → length new ≡ 16384 → found new ≡ with_found t c u s (found xs) → at < 256 → at + 1 ≡ row_of t c → is_row t c ≡ true → next ≡ set least at p → p ≡ least_source (with_found t c u s (found xs) t c) → AreLeast new next
+pub least_written : (xs new least next : Shares) (t c u at : ℕ) (s p : Option ℕ) → AreLeast xs least → length new ≡ 16384 → found new ≡ with_found t c u s (found xs) → at < 256 → at ≡ row_at t c → is_row t c ≡ true → next ≡ set least at p → p ≡ least_source (with_found t c u s (found xs) t c) → AreLeast new next
 least_written xs new least next t c u at s p are size written within place row put is = record {
   cells_each = size;
   rows_each = ap (λ (ys : Shares). length ys) put ∙ length-set least at p ∙ are.rows_each;
@@ -309,16 +286,166 @@ least_of_nones cells least e f = record {
   is_least = λ t c row. ap (λ (ys : Shares). nth None ys (row_of t c)) f ∙ nth_nones 256 (row_of t c) ∙ sym (least_of_none (found cells t c) (λ u. ap (λ (ys : Shares). found ys t c u) e ∙ found_nones 16384 t c u));
 }
 
--- ---- flags of those that contribute
+-- ---- who contributes to whom
 
--- which flags are raised by the contributions of the first so many, where some were raised
-pub record IsFlagging (f : ℕ → Option ℕ) (i : ℕ) (before flags : List Bool) : Type 0 where
-  pub size : length flags ≡ 64
-  pub kept : (u : ℕ) → nth false flags u ≡ false → nth false before u ≡ false
-  pub all : (u : ℕ) → 1 ≤ u → u ≤ i → nth false flags u ≡ false → f u ≡ None
+-- what was noted in the set of a row
+pub record IsNotedAt (old new : List IndexSet) (row index : ℕ) (there : Bool) : Type 0 where
+  pub size : length new ≡ length old
+  pub here : (i : ℕ) → is_in (get_or new row no_indices) i ≡ cond (index == i) there (is_in (get_or old row no_indices) i)
+  pub others : (r : ℕ) → r ≢ row → get_or new r no_indices ≡ get_or old r no_indices
 
-pub all_flagged : (xs : Shares) (t c i : ℕ) (before flags : List Bool) → 64 ≤ i → IsFlagging (found xs t c) i before flags → (u : ℕ) → nth false flags u ≡ false → found xs t c u ≡ None
-all_flagged xs t c i before flags more is u un = by (is_one u) refl where
-  by : (b : Bool) → is_one u ≡ b → found xs t c u ≡ None
-  by true e = let one = one_within u e in is.all u one.0 (omega (arith, one.1, more)) un
-  by false e = found_of_none xs t c u e
+some_of : (b : Bool) (s x : Option ℕ) → is_some (cond b s x) ≡ cond b (is_some s) (is_some x)
+some_of true s x = refl
+some_of false s x = refl
+
+and_swapped : (a b : Bool) → (a && b) ≡ (b && a)
+and_swapped true true = refl
+and_swapped true false = refl
+and_swapped false true = refl
+and_swapped false false = refl
+
+other_row : (t c v d : ℕ) → IsRow t c → IsRow v d → ((t == v) && (c == d)) ≡ false → row_at v d ≢ row_at t c
+other_row t c v d row inside other e =
+    let are = same_row t c v d row inside (ap (λ n. n + 1) e) in
+    true≢false (sym (both (t == v) (c == d) (equal_test t v (sym are.0)) (equal_test c d (sym are.1))) ∙ other)
+
+pub indexed_written : (xs new : Shares) (sources targets sources' targets' : List IndexSet) (t c u at to : ℕ) (s : Option ℕ) → AreIndexed xs sources targets → found new ≡ with_found t c u s (found xs) → is_row t c ≡ true → is_row u c ≡ true → at ≡ row_at t c → to ≡ row_at u c → IsNotedAt sources sources' at u (is_some s) → IsNotedAt targets targets' to t (is_some s) → AreIndexed new sources' targets'
+indexed_written xs new sources targets sources' targets' t c u at to s are written row from place goal in_sources in_targets = record {
+  sources_each = in_sources.size ∙ are.sources_each;
+  targets_each = in_targets.size ∙ are.targets_each;
+  are_sources = λ v d w inside. by_source v d w inside ((t == v) && (c == d)) refl ∙ ap (λ (f : ℕ → ℕ → ℕ → Option ℕ). is_some (f v d w)) (sym written);
+  are_targets = λ v d w inside. by_target v d w inside ((u == w) && (c == d)) refl ∙ ap (λ (f : ℕ → ℕ → ℕ → Option ℕ). is_some (f v d w)) (sym written);
+} where
+  here_source : (w : ℕ) → is_in (set_at sources' t c) w ≡ is_some (with_found t c u s (found xs) t c w)
+  here_source w =
+      ap (λ n. is_in (get_or sources' n no_indices) w) (sym place)
+      ∙ in_sources.here w
+      ∙ ap (λ n. cond (u == w) (is_some s) (is_in (get_or sources n no_indices) w)) place
+      ∙ ap (cond (u == w) (is_some s)) (are.are_sources t c w row)
+      ∙ sym (some_of (u == w) s (found xs t c w))
+      ∙ ap (λ b. is_some (cond (b && (u == w)) s (found xs t c w))) (sym (equal_test c c refl))
+      ∙ ap (λ b. is_some (cond (b && ((c == c) && (u == w))) s (found xs t c w))) (sym (equal_test t t refl))
+
+  by_source : (v d w : ℕ) → is_row v d ≡ true → (b : Bool) → ((t == v) && (c == d)) ≡ b → is_in (set_at sources' v d) w ≡ is_some (with_found t c u s (found xs) v d w)
+  by_source v d w inside true e =
+      let one = same_number t v (and_front (t == v) (c == d) e) in
+      let two = same_number c d (and_back (t == v) (c == d) e) in
+      ap (λ n. is_in (set_at sources' n d) w) (sym one) ∙ ap (λ n. is_in (set_at sources' t n) w) (sym two)
+      ∙ here_source w
+      ∙ ap (λ n. is_some (with_found t c u s (found xs) t n w)) two ∙ ap (λ n. is_some (with_found t c u s (found xs) n d w)) one
+  by_source v d w inside false other =
+      ap (λ set. is_in set w) (in_sources.others (row_at v d) (λ e. other_row t c v d (row_within t c row) (row_within v d inside) other (e ∙ place)))
+      ∙ are.are_sources v d w inside
+      ∙ ap (λ (f : ℕ → Option ℕ). is_some (f w)) (sym (elsewhere t c u s (found xs) v d other))
+
+  here_target : (v : ℕ) → is_in (set_at targets' u c) v ≡ is_some (with_found t c u s (found xs) v c u)
+  here_target v =
+      ap (λ n. is_in (get_or targets' n no_indices) v) (sym goal)
+      ∙ in_targets.here v
+      ∙ ap (λ n. cond (t == v) (is_some s) (is_in (get_or targets n no_indices) v)) goal
+      ∙ ap (cond (t == v) (is_some s)) (are.are_targets v c u from)
+      ∙ sym (some_of (t == v) s (found xs v c u))
+      ∙ ap (λ b. is_some (cond b s (found xs v c u))) (sym (with_true (t == v)))
+      ∙ ap (λ b. is_some (cond ((t == v) && b) s (found xs v c u))) (sym (both (c == c) (u == u) (equal_test c c refl) (equal_test u u refl)))
+    where
+      with_true : (b : Bool) → (b && true) ≡ b
+      with_true true = refl
+      with_true false = refl
+
+  by_target : (v d w : ℕ) → is_row w d ≡ true → (b : Bool) → ((u == w) && (c == d)) ≡ b → is_in (set_at targets' w d) v ≡ is_some (with_found t c u s (found xs) v d w)
+  by_target v d w inside true e =
+      let one = same_number u w (and_front (u == w) (c == d) e) in
+      let two = same_number c d (and_back (u == w) (c == d) e) in
+      ap (λ n. is_in (set_at targets' n d) v) (sym one) ∙ ap (λ n. is_in (set_at targets' u n) v) (sym two)
+      ∙ here_target v
+      ∙ ap (λ n. is_some (with_found t c u s (found xs) v n u)) two ∙ ap (λ n. is_some (with_found t c u s (found xs) v d n)) one
+  by_target v d w inside false other =
+      ap (λ set. is_in set v) (in_targets.others (row_at w d) (λ e. other_row u c w d (row_within u c from) (row_within w d inside) other (e ∙ goal)))
+      ∙ are.are_targets v d w inside
+      ∙ ap (λ b. is_some (cond b s (found xs v d w))) (sym (ap (λ b. (t == v) && b) (and_swapped (c == d) (u == w) ∙ other) ∙ and_false (t == v)))
+
+pub indexed_none : (cells : Shares) (sources targets : List IndexSet) → cells ≡ nones 16384 → length sources ≡ 256 → ((r i : ℕ) → is_in (get_or sources r no_indices) i ≡ false) → length targets ≡ 256 → ((r i : ℕ) → is_in (get_or targets r no_indices) i ≡ false) → AreIndexed cells sources targets
+indexed_none cells sources targets e size none size2 none2 = record {
+  sources_each = size;
+  targets_each = size2;
+  are_sources = λ t c u row. none (row_at t c) u ∙ sym (nothing t c u);
+  are_targets = λ t c u row. none2 (row_at u c) t ∙ sym (nothing t c u);
+} where
+  nothing : (t c u : ℕ) → is_some (found cells t c u) ≡ false
+  nothing t c u = ap (λ o. is_some o) (ap (λ (ys : Shares). found ys t c u) e ∙ found_nones 16384 t c u)
+
+-- the set of a row is read
+pub set_there : (sets : List IndexSet) (at t c : ℕ) (r : IndexSet) → length sets ≡ 256 → at < 256 → at ≡ row_at t c → r ≡ get_or sets at r → r ≡ set_at sets t c
+set_there sets at t c r size within place is = get_or_read_under sets at 256 r no_indices is within (sym size) ∙ ap (λ n. get_or sets n no_indices) place
+
+-- what one set has, noted in it or not
+pub noted_in : (index : ℕ) (set with : IndexSet) → ((i : ℕ) → is_in with i ≡ ((index == i) || is_in set i)) → (i : ℕ) → is_in with i ≡ cond (index == i) true (is_in set i)
+noted_in index set with is i = is i ∙ by (index == i) (is_in set i) where
+  by : (a b : Bool) → (a || b) ≡ cond a true b
+  by true b = refl
+  by false b = refl
+
+pub noted_out : (index : ℕ) (set with : IndexSet) → ((i : ℕ) → is_in with i ≡ (not (index == i) && is_in set i)) → (i : ℕ) → is_in with i ≡ cond (index == i) false (is_in set i)
+noted_out index set with is i = is i ∙ by (index == i) (is_in set i) where
+  by : (a b : Bool) → (not a && b) ≡ cond a false b
+  by true b = refl
+  by false b = refl
+
+pub row_noted : (sets new : List IndexSet) (row index : ℕ) (there : Bool) (was now : IndexSet) → row < length sets → was ≡ get_or sets row was → ((i : ℕ) → is_in now i ≡ cond (index == i) there (is_in was i)) → new ≡ set sets row now → IsNotedAt sets new row index there
+row_noted sets new row index there was now within is noted put = record {
+  size = ap (λ (ys : List IndexSet). length ys) put ∙ length-set sets row now;
+  here = λ i. ap (λ (ys : List IndexSet). is_in (get_or ys row no_indices) i) put ∙ ap (λ x. is_in x i) (get_or-set_same sets row now no_indices within) ∙ noted i ∙ ap (λ x. cond (index == i) there (is_in x i)) (get_or_read_under sets row (length sets) was no_indices is within refl);
+  others = λ r other. ap (λ (ys : List IndexSet). get_or ys r no_indices) put ∙ get_or-set_other sets row r now no_indices other;
+}
+
+-- sets of no index
+pub none_replicated : (sets : List IndexSet) (n : ℕ) (none : IndexSet) → sets ≡ replicate n none → ((i : ℕ) → is_in none i ≡ false) → (r i : ℕ) → is_in (get_or sets r no_indices) i ≡ false
+none_replicated sets n none e all r i = ap (λ (ys : List IndexSet). is_in (get_or ys r no_indices) i) e ∙ ⊎_elim (λ less. ap (λ set. is_in set i) (get_or-replicate n r none no_indices less) ∙ all i) (λ more. ap (λ set. is_in set i) (get_or_past (replicate n none) r no_indices (rw (length-replicate {A = IndexSet} n none) more)) ∙ none_in 0 refl i) (cases_lt r n)
+
+pub none_of : (o : Option ℕ) → is_some o ≡ false → o ≡ None
+none_of None e = refl
+none_of (Some x) e = absurd (true≢false e)
+
+-- who contributes nothing contributes nothing where another is left out
+pub none_but : (t c u : ℕ) (f : ℕ → ℕ → ℕ → Option ℕ) (w : ℕ) → is_some (f t c w) ≡ false → with_found t c u None f t c w ≡ None
+none_but t c u f w none = by (is_same t c u t c w) where
+  by : (b : Bool) → cond b None (f t c w) ≡ None
+  by true = refl
+  by false = none_of (f t c w) none
+
+-- ---- the least of those in a set
+
+-- what those in a set have
+abbrev among : IndexSet → (ℕ → Option ℕ) → ℕ → Option ℕ
+among set f u = cond (is_in set u) (f u) None
+
+-- this one and those that are left in the set have the least of all
+abbrev pub IsComparing : (ℕ → Option ℕ) → IndexSet → Option ℕ → Type 0
+IsComparing f rest best = lesser_of best (least_source (among rest f)) ≡ least_source f
+
+pub comparing_starts : (f : ℕ → Option ℕ) (set : IndexSet) → ((u : ℕ) → is_in set u ≡ false → f u ≡ None) → IsComparing f set None
+comparing_starts f set none = ap least_source (λ i u. by u (is_in set u) refl i) where
+  by : (u : ℕ) (b : Bool) → is_in set u ≡ b → cond b (f u) None ≡ f u
+  by u true e = refl
+  by u false e = sym (none u e)
+
+pub comparing_goes_on : (f : ℕ → Option ℕ) (rest next : IndexSet) (v : ℕ) (best more one : Option ℕ) → IsTaken rest v next → one ≡ f v → more ≡ lesser_of best one → IsComparing f rest best → IsComparing f next more
+unfolding least_source
+comparing_goes_on f rest next v best more one is at e so_far =
+    ap (λ o. lesser_of o (least_source (among next f))) (e ∙ ap (lesser_of best) at)
+    ∙ lesser_assoc best (f v) (least_source (among next f))
+    ∙ ap (lesser_of best) (sym (least_with (among next f) v 1 64 (f v) gone is.low (omega (arith, is.high))) ∙ ap (λ (g : ℕ → Option ℕ). least_of g 1 64) (λ i w. sym (all w (v == w) refl) i))
+    ∙ so_far
+  where
+    gone : among next f v ≡ None
+    gone = ap (λ b. cond b (f v) None) (is.rest v ∙ ap (λ b. not b && is_in rest v) (equal_test v v refl))
+
+    all : (w : ℕ) (b : Bool) → (v == w) ≡ b → among rest f w ≡ cond (v == w) (f v) (among next f w)
+    all w true e =
+        let same = same_number v w e in
+        ap (λ n. among rest f n) (sym same) ∙ ap (λ b. cond b (f v) None) is.there ∙ sym (ap (λ b. cond b (f v) (among next f w)) e)
+    all w false e = ap (λ b. cond b (f w) None) (sym (is.rest w ∙ ap (λ b. not b && is_in rest w) e)) ∙ sym (ap (λ b. cond b (f v) (among next f w)) e)
+
+pub comparing_ends : (f : ℕ → Option ℕ) (rest : IndexSet) (best : Option ℕ) → ((u : ℕ) → is_in rest u ≡ false) → IsComparing f rest best → best ≡ least_source f
+comparing_ends f rest best none so_far =
+    sym (ap (lesser_of best) (least_of_none (among rest f) (λ u. ap (λ b. cond b (f u) None) (none u))) ∙ lesser_none best) ∙ so_far

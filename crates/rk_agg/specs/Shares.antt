@@ -1,6 +1,9 @@
 -- Contributions to the priorities of threads, by look-up.
-use Rattle.std.specs.Prelude.{ℕ, ◌≡◌, ◌+◌, ◌*◌, ◌-◌, List, Bool, true, false, ◌&&◌, ◌==◌, nat_lt, Option, Some, None, length, replicate, if◌then◌else◌}
+use Rattle.std.specs.Prelude.{ℕ, ◌≡◌, ◌+◌, ◌*◌, ◌-◌, List, Bool, true, false, ◌&&◌, ◌==◌, nat_lt, Option, Some, None, is_some, length, replicate, if◌then◌else◌}
 use Rattle.rk_model.specs.declared.limits.TheConstants.{MOST_CLUSTERS, MOST_OBJECTS}
+use Rattle.std.specs.List.{slice_index_or}
+use Rattle.rk_model.specs.IndexSets.{is_in}
+use Rattle.rk_model.specs.declared.index_set.IndexSet.{IndexSet}
 use Rattle.rk_model.specs.Lists.{nth}
 use Rattle.rk_model.specs.Scheduling.Priorities.{lesser_of, least_of}
 use Rattle.rk_agg.specs.declared.aggregates.TheConstants.{MOST_ROWS, MOST_SHARES}
@@ -17,9 +20,13 @@ is_one t = nat_lt 0 t && nat_lt t (MOST_OBJECTS + 1)
 abbrev pub is_row : ℕ → ℕ → Bool
 is_row t c = is_one t && nat_lt c MOST_CLUSTERS
 
--- where the thread and the cluster stand among all, from 1
+-- where a thread and a cluster stand among all, from 0
+abbrev pub row_at : ℕ → ℕ → ℕ
+row_at t c = (t - 1) * MOST_CLUSTERS + c
+
+-- the same, from 1
 abbrev pub row_of : ℕ → ℕ → ℕ
-row_of t c = (t - 1) * MOST_CLUSTERS + c + 1
+row_of t c = row_at t c + 1
 
 -- where the contribution of a thread, which comes last, to another in a cluster stands, from 1
 abbrev pub cell_of : ℕ → ℕ → ℕ → ℕ
@@ -59,6 +66,21 @@ is_same_prio (Some p) (Some q) = p == q
 -- the least of the priorities of all threads that have one
 unfoldable pub least_source : (ℕ → Option ℕ) → Option ℕ
 least_source f = least_of f 1 MOST_OBJECTS
+
+-- the set of no index
+abbrev pub no_indices : IndexSet
+no_indices = record { marks = 0 }
+
+-- the set that stands for a thread in a cluster
+abbrev pub set_at : List IndexSet → ℕ → ℕ → IndexSet
+set_at sets t c = slice_index_or sets (row_at t c) no_indices
+
+-- For each thread and cluster there are the set of the threads that contribute to it there, and the set of those to which it contributes there.
+pub record AreIndexed (cells : Shares) (sources targets : List IndexSet) : Type 0 where
+  pub sources_each : length sources ≡ MOST_ROWS
+  pub targets_each : length targets ≡ MOST_ROWS
+  pub are_sources : (t c u : ℕ) → is_row t c ≡ true → is_in (set_at sources t c) u ≡ is_some (found cells t c u)
+  pub are_targets : (t c u : ℕ) → is_row u c ≡ true → is_in (set_at targets u c) t ≡ is_some (found cells t c u)
 
 -- There is a cell for each contribution, and for each thread and cluster the least of the contributions.
 pub record AreLeast (cells least : Shares) : Type 0 where

@@ -1,11 +1,12 @@
-ghost use Rattle.std.specs.Prelude.{◌≡◌, ◌<◌, ◌+◌, ◌||◌, ◌==◌, IfOk, Some, None, is_some, true, false, length, ℕ};
+ghost use Rattle.std.specs.Prelude.{◌≡◌, ◌≢◌, ◌<◌, ◌+◌, ◌==◌, IfOk, Some, None, is_some, true, false, length, ℕ, if◌then◌else◌};
+ghost use Rattle.std.specs.List.{slice_index_or};
+ghost use Rattle.rk_model.specs.IndexSets.{is_in};
 ghost use Rattle.rk_model.specs.declared.limits.TheConstants.{MOST_CLUSTERS, MOST_OBJECTS};
-ghost use Rattle.rk_model.specs.Lists.{nth};
-ghost use Rattle.rk_agg.specs.Shares.{cell_of, found, is_one, is_row, is_same_prio, least_source, lesser_prio, no_shares, nones, row_of, with_found};
+ghost use Rattle.rk_agg.specs.Shares.{cell_of, found, is_one, is_row, is_same_prio, least_source, lesser_prio, no_indices, no_shares, nones, row_at, with_found};
 ghost use Rattle.rk_agg.specs.declared.aggregates.TheConstants.{MOST_ROWS, MOST_SHARES};
 
 use rk_model::limits::{MOST_CLUSTERS, MOST_OBJECTS};
-use rk_model::{Items, NoMemory, Prio, ThreadIx};
+use rk_model::{IndexSet, Items, NoMemory, Prio, ThreadIx};
 use std::alloc::Global;
 use std::marker::Model;
 
@@ -26,16 +27,20 @@ pub struct Aggregates {
     cells: Items<Option<Prio>>,
     /// The least of what is contributed to each thread in each cluster.
     least: Items<Option<Prio>>,
+    /// Who contributes to each thread in each cluster.
+    sources: Items<IndexSet>,
+    /// To whom each thread contributes in each cluster.
+    targets: Items<IndexSet>,
 }
 
 impl Model for Aggregates {
-    ghost use Rattle.rk_agg.specs.Shares.{AreLeast, Shares};
+    ghost use Rattle.rk_agg.specs.Shares.{AreIndexed, AreLeast, Shares};
 
     ghost Value = { Shares };
 
     ghost view = { λ a. a.cells };
 
-    ghost invariant = { λ a. AreLeast a.cells a.least };
+    ghost invariant = { λ a. AreLeast a.cells a.least × AreIndexed a.cells a.sources a.targets };
 }
 
 /// So many cells without a contribution.
@@ -46,10 +51,43 @@ fn nones(alloc: Global, count: usize) -> Result<Items<Option<Prio>>, NoMemory>
     Ok(Items::from_vec(cells))
 }
 
+/// So many sets of no index.
+fn no_sets(alloc: Global, count: usize) -> Result<Items<IndexSet>, NoMemory>
+    ensures size { IfOk result (λ sets. length sets ≡ count) }
+    ensures none { IfOk result (λ sets. (r i : ℕ) → is_in (slice_index_or sets r no_indices) i ≡ false) }
+{
+    let sets = vec![in alloc; IndexSet::empty(); count]?;
+    Ok(Items::from_vec(sets))
+}
+
+/// The set with an index in it or not, and all others as before.
+fn noted(set: IndexSet, index: ThreadIx, there: bool) -> IndexSet
+    ensures { (i : ℕ) → is_in result i ≡ (if index == i then there else is_in set i) }
+{
+    let mut noted = set;
+    if there {
+        noted.insert(index.at());
+        return noted;
+    }
+    noted.remove(index.at());
+    noted
+}
+
+/// Notes in the set of a row that an index is in it or not.
+fn note(sets: &mut Items<IndexSet>, row: usize, index: ThreadIx, there: bool)
+    requires { row < length sets.old }
+    ensures size { length sets.new ≡ length sets.old }
+    ensures row { (i : ℕ) → is_in (slice_index_or sets.new row no_indices) i ≡ (if index == i then there else is_in (slice_index_or sets.old row no_indices) i) }
+    ensures others { (r : ℕ) → r ≢ row → slice_index_or sets.new r no_indices ≡ slice_index_or sets.old r no_indices }
+{
+    let set = noted(sets.at(row), index, there);
+    sets.set(row, set);
+}
+
 /// Where a thread and a cluster stand among all, from 0.
 fn row_of(thread: ThreadIx, cluster: u8) -> usize
     requires { cluster < MOST_CLUSTERS }
-    ensures value { result + 1 ≡ row_of thread cluster }
+    ensures value { result ≡ row_at thread cluster }
     ensures row { is_row thread cluster ≡ true }
     ensures within { result < MOST_ROWS }
 {
@@ -79,6 +117,8 @@ impl Aggregates {
         Ok(Aggregates {
             cells: nones(alloc, MOST_SHARES)?,
             least: nones(alloc, MOST_ROWS)?,
+            sources: no_sets(alloc, MOST_ROWS)?,
+            targets: no_sets(alloc, MOST_ROWS)?,
         })
     }
 
@@ -136,18 +176,25 @@ impl Aggregates {
         }
     }
 
-    /// Raises the flag of each thread that contributes to another in a cluster.
-    pub fn flag_sources(&self, thread: ThreadIx, cluster: u8, flags: &mut [bool])
-        requires { length flags.old ≡ MOST_OBJECTS }
-        ensures size { length flags.new ≡ MOST_OBJECTS }
-        ensures kept { (u : ℕ) → nth false flags.new u ≡ false → nth false flags.old u ≡ false }
-        ensures all { (u : ℕ) → nth false flags.new u ≡ false → found self.now thread cluster u ≡ None }
+    /// Who contributes to a thread in a cluster.
+    pub fn sources(&self, thread: ThreadIx, cluster: u8) -> IndexSet
+        ensures { (u : ℕ) → is_in result u ≡ is_some (found self.now thread cluster u) }
     {
-        for at in 0..MOST_OBJECTS {
-            let source = ThreadIx::new(at as u8 + 1);
-            if self.share(thread, cluster, source).is_some() {
-                raise(flags, source);
-            }
+        if (cluster as usize) < MOST_CLUSTERS {
+            self.sources.at(row_of(thread, cluster))
+        } else {
+            IndexSet::empty()
+        }
+    }
+
+    /// To whom a thread contributes in a cluster.
+    pub fn targets(&self, source: ThreadIx, cluster: u8) -> IndexSet
+        ensures { (t : ℕ) → is_in result t ≡ is_some (found self.now t cluster source) }
+    {
+        if (cluster as usize) < MOST_CLUSTERS {
+            self.targets.at(row_of(source, cluster))
+        } else {
+            IndexSet::empty()
         }
     }
 
@@ -164,8 +211,12 @@ impl Aggregates {
         requires least { least ≡ least_source (with_found thread cluster source share (found self.old) thread cluster) }
         ensures { found self.new ≡ with_found thread cluster source share (found self.old) }
     {
+        let there = share.is_some();
+        let row = row_of(thread, cluster);
         self.cells.set(cell_of(thread, cluster, source), share);
-        self.least.set(row_of(thread, cluster), least);
+        self.least.set(row, least);
+        note(&mut self.sources, row, source, there);
+        note(&mut self.targets, row_of(source, cluster), thread, there);
     }
 
     /// What a thread contributes to another in a cluster, if it isn't this source.
@@ -185,13 +236,14 @@ impl Aggregates {
         }
     }
 
-    /// The least of the contributions to a thread in a cluster but for that of a source, by comparing all.
+    /// The least of the contributions to a thread in a cluster but for that of a source, by comparing them.
     fn least_but(&self, thread: ThreadIx, cluster: u8, source: ThreadIx) -> Option<Prio>
         ensures { result ≡ least_source (with_found thread cluster source None (found self.now) thread cluster) }
     {
+        let mut rest = self.sources(thread, cluster);
         let mut best = None;
-        for at in 0..MOST_OBJECTS {
-            let other = ThreadIx::new(at as u8 + 1);
+        'comparing: while let Some(at) = rest.take_least() {
+            let other = ThreadIx::new(at);
             best = lesser_of(best, self.share_but(thread, cluster, source, other));
         }
         best
@@ -212,17 +264,6 @@ impl Aggregates {
             least
         }
     }
-}
-
-/// Raises the flag of a thread.
-fn raise(flags: &mut [bool], thread: ThreadIx)
-    requires { length flags.old ≡ MOST_OBJECTS }
-    ensures size { length flags.new ≡ MOST_OBJECTS }
-    ensures raised { (u : ℕ) → nth false flags.new u ≡ ((thread == u) || nth false flags.old u) }
-{
-    // Reading the index tells its range.
-    let _index = thread.at();
-    flags[thread.at() as usize - 1] = true;
 }
 
 /// Whether two priorities are the same, of which each may be none.

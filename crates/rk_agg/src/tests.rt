@@ -89,15 +89,23 @@ fn clusters_are_apart(rt: HostRuntime) -> Result<(), Fail> {
 }
 
 #[test]
-fn flags_the_sources_of_one(rt: HostRuntime) -> Result<(), Fail> {
+fn knows_sources_and_targets(rt: HostRuntime) -> Result<(), Fail> {
     let mut shares = Aggregates::new(rt.alloc()).map_err(|_: NoMemory| "memory")?;
     lend(&mut shares, 2, 1, 5, 9);
     lend(&mut shares, 2, 1, 64, 9);
     lend(&mut shares, 2, 0, 6, 9);
-    lend(&mut shares, 3, 1, 7, 9);
-    let mut flags = [false; 64];
-    shares.flag_sources(index(2), 1, &mut flags);
-    assert!(rt; flags[4] && flags[63]);
-    assert!(rt; !flags[5] && !flags[6] && !flags[1]);
+    lend(&mut shares, 3, 1, 64, 9);
+    let mut sources = shares.sources(index(2), 1);
+    assert!(rt; matches!(sources.take_least(), Some(5)));
+    assert!(rt; matches!(sources.take_least(), Some(64)));
+    assert!(rt; sources.is_empty());
+    let mut targets = shares.targets(index(64), 1);
+    assert!(rt; matches!(targets.take_least(), Some(2)));
+    assert!(rt; matches!(targets.take_least(), Some(3)));
+    assert!(rt; targets.is_empty());
+    lend(&mut shares, 2, 1, 64, 0);
+    assert!(rt; !shares.sources(index(2), 1).contains(64));
+    assert!(rt; !shares.targets(index(64), 1).contains(2));
+    assert!(rt; shares.sources(index(2), 4).is_empty());
     Ok(())
 }

@@ -1,13 +1,13 @@
-use Rattle.std.proofs.Common.{None, arith, ap, ◌∙◌}
+use Rattle.std.proofs.Common.{None, ap, sym, ◌∙◌}
 use Rattle.rk_agg.specs.Shares.{found, with_found}
-use Rattle.rk_agg.proofs.ShareLemmas.{least_starts, least_goes_on, least_ends}
+use Rattle.rk_agg.proofs.ShareLemmas.{comparing_starts, comparing_goes_on, comparing_ends, none_but}
 use Rattle.rk_agg.proofs.aggregates.Aggregates.least_but.Goals as goal
 
-pub loop-at-init : goal.loop-at-init
-loop-at-init c = least_starts (with_found c.args.thread c.args.cluster c.args.source None (found c.args.self.now) c.args.thread c.args.cluster)
+pub comparing-init : goal.comparing-init
+comparing-init c = comparing_starts (with_found c.args.thread c.args.cluster c.args.source None (found c.args.self.now) c.args.thread c.args.cluster) c.sources-rest.result (λ u no. none_but c.args.thread c.args.cluster c.args.source (found c.args.self.now) u (sym (c.sources-rest.ensures u) ∙ no))
 
-pub loop-at-preserved : goal.loop-at-preserved
-loop-at-preserved c = least_goes_on (with_found c.args.thread c.args.cluster c.args.source None (found c.args.self.now) c.args.thread c.args.cluster) c.loop-at.at c.loop-at.best c.lesser_of-best.result c.share_but.result (omega arith) (c.share_but.ensures ∙ ap (with_found c.args.thread c.args.cluster c.args.source None (found c.args.self.now) c.args.thread c.args.cluster) c.new-other.ensures) c.lesser_of-best.ensures c.loop-at.invariant
+pub comparing-preserved : goal.comparing-preserved
+comparing-preserved c = comparing_goes_on (with_found c.args.thread c.args.cluster c.args.source None (found c.args.self.now) c.args.thread c.args.cluster) c.comparing.rest c.take_least.new.self c.in-Some.at c.comparing.best c.lesser_of-best.result c.share_but.result c.in-Some.ensures.some (c.share_but.ensures ∙ ap (with_found c.args.thread c.args.cluster c.args.source None (found c.args.self.now) c.args.thread c.args.cluster) c.new-other.ensures) c.lesser_of-best.ensures c.comparing.invariant
 
 pub returns : goal.returns
-returns c = least_ends (with_found c.args.thread c.args.cluster c.args.source None (found c.args.self.now) c.args.thread c.args.cluster) c.loop-at.at c.loop-at.best (omega arith) c.loop-at.invariant
+returns c = comparing_ends (with_found c.args.thread c.args.cluster c.args.source None (found c.args.self.now) c.args.thread c.args.cluster) c.comparing.rest c.comparing.best c.in_default.ensures.none c.comparing.invariant

@@ -1,7 +1,11 @@
 use Rattle.std.proofs.Common.{None}
+use Rattle.rk_model.specs.IndexSets.{weight}
 use Rattle.rk_agg.specs.Shares.{found, with_found}
-use Rattle.rk_agg.proofs.ShareLemmas.{IsLeastOf}
+use Rattle.rk_agg.proofs.ShareLemmas.{IsComparing}
 use Rattle.rk_agg.proofs.aggregates.Aggregates.least_but.Given as goal
 
-abbrev pub invariant-loop-at : goal.invariant-loop-at
-invariant-loop-at l = IsLeastOf (with_found l.thread l.cluster l.source None (found l.self) l.thread l.cluster) l.at l.best
+abbrev pub invariant-comparing : goal.invariant-comparing
+invariant-comparing l = IsComparing (with_found l.thread l.cluster l.source None (found l.self) l.thread l.cluster) l.rest l.best
+
+abbrev pub decreases-comparing : goal.decreases-comparing
+decreases-comparing l = weight l.rest
