@@ -6,6 +6,8 @@ use Rattle.std.proofs.lemmas.Bool.Decides.{nat_tests}
 use Rattle.std.proofs.lemmas.Bool.{false≢true, cases_lt}
 use Rattle.rk_model.specs.declared.state.Wait.{Wait}
 use Rattle.rk_model.specs.declared.state.Wait.TheVariants.{ForTime, ForEvents, AtBarrier, ForPeriod, ForSemaphore}
+use Rattle.rk_model.specs.declared.index_set.IndexSet.{IndexSet}
+use Rattle.rk_model.proofs.IndexSetLemmas.{in_within}
 use Rattle.rk_model.specs.Lists.{has, nth}
 use Rattle.rk_model.specs.Queues.{lesser}
 use Rattle.rk_model.specs.State.{no_thread}
@@ -75,19 +77,14 @@ contributes_to : (bear : ℕ → Bearing) (hold : ℕ → Option Holding) (t c u
 unfolding contributed
 contributes_to bear hold t c u lives home met = rw (lives, equal_test (bear u).home c (sym home), met) refl
 
--- a raised flag is that of one of the 64 threads
-pub flag_within : (flags : List Bool) (t : ℕ) → length flags ≡ 64 → flagged flags t ≡ true → IsOne t
-flag_within flags zero size h = absurd (false≢true h)
-flag_within flags (suc i) size h = ⊎_elim (λ less. (omega arith, omega (arith, less, size))) (λ more. absurd (false≢true (sym (get_or_past flags i false more) ∙ h))) (cases_lt i (length flags))
-
 -- the chain of one that contributed to no touched thread reached none
-pub untouched_chain : (touched : List Bool) (parts : List ClusterPart) (u : ℕ) → length touched ≡ 64 → IsOne u → IsFresh touched parts u → AreLent (bore parts) (holder (noted_holdings parts)) parts → Lives parts → has_begun (bore parts u).life ≡ true → (w : ℕ) → reached_by (step_by (bore parts) (holder (noted_holdings parts))) u w ≡ true → flagged touched w ≡ false
-untouched_chain touched parts u size one fresh lent lives alive w met = by (flagged touched w) refl (lives u alive) where
+pub untouched_chain : (touched : IndexSet) (parts : List ClusterPart) (u : ℕ) → IsOne u → IsFresh touched parts u → AreLent (bore parts) (holder (noted_holdings parts)) parts → Lives parts → has_begun (bore parts u).life ≡ true → (w : ℕ) → reached_by (step_by (bore parts) (holder (noted_holdings parts))) u w ≡ true → flagged touched w ≡ false
+untouched_chain touched parts u one fresh lent lives alive w met = by (flagged touched w) refl (lives u alive) where
   by : (b : Bool) → flagged touched w ≡ b → (at : ℕ) × ((at < length parts) × ((part_at parts at).lined.number ≡ (bore parts u).home)) → flagged touched w ≡ false
   by false e home = e
   by true e home =
       let some = contributes_to (bore parts) (holder (noted_holdings parts)) w (part_at parts home.0).lined.number u alive home.1.1 met in
-      let none : contributed (bore parts) (holder (noted_holdings parts)) w (part_at parts home.0).lined.number u ≡ None = sym (lent.own home.0 w u home.1.0 (flag_within touched w size e) one) ∙ fresh.others home.0 w home.1.0 e in
+      let none : contributed (bore parts) (holder (noted_holdings parts)) w (part_at parts home.0).lined.number u ≡ None = sym (lent.own home.0 w u home.1.0 (in_within touched w e) one) ∙ fresh.others home.0 w home.1.0 e in
       absurd (false≢true (sym (ap (λ o. is_some o) none) ∙ some))
 
 -- what steps as before
@@ -102,18 +99,17 @@ step_same bear bear' hold hold' w same apart = by bear'.wait refl ∙ ap (λ (b 
   by (Some (ForSemaphore i spins)) e = ap (borrower_by hold') e ∙ (apart i).step spins e ∙ sym (ap (borrower_by hold) e)
 
 -- Who is touched, as far as flags tell: the others bear what they bore, and changed holdings don't touch them.
-pub record TellsTouched (touched : List Bool) (parts : List ClusterPart) : Type 0 where
-  pub size : length touched ≡ 64
+pub record TellsTouched (touched : IndexSet) (parts : List ClusterPart) : Type 0 where
   pub bear : (t : ℕ) → flagged touched t ≡ false → bears parts t ≡ bore parts t
   pub hold : (t : ℕ) → flagged touched t ≡ false → (i : ℕ) → IsApart (holder (noted_holdings parts) i) (holder (holdings parts) i) i t (bears parts t).wait
 
 -- Who contributed to no touched thread, and isn't touched, contributes as before.
-pub contributes_still : (touched : List Bool) (parts : List ClusterPart) → TellsTouched touched parts → AreLent (bore parts) (holder (noted_holdings parts)) parts → Lives parts → (u : ℕ) → IsOne u → IsFresh touched parts u → (t c : ℕ) → contributed (bears parts) (holder (holdings parts)) t c u ≡ contributed (bore parts) (holder (noted_holdings parts)) t c u
+pub contributes_still : (touched : IndexSet) (parts : List ClusterPart) → TellsTouched touched parts → AreLent (bore parts) (holder (noted_holdings parts)) parts → Lives parts → (u : ℕ) → IsOne u → IsFresh touched parts u → (t c : ℕ) → contributed (bears parts) (holder (holdings parts)) t c u ≡ contributed (bore parts) (holder (noted_holdings parts)) t c u
 contributes_still touched parts tells lent lives u one fresh =
     contributed_same (bore parts) (bears parts) (holder (noted_holdings parts)) (holder (holdings parts)) u
     (tells.bear u fresh.self)
     (λ i c. (tells.hold u fresh.self i).ceiling c)
-    (λ alive w met. (let low = untouched_chain touched parts u tells.size one fresh lent lives alive w met in step_same (bore parts w) (bears parts w) (holder (noted_holdings parts)) (holder (holdings parts)) w (tells.bear w low) (tells.hold w low)))
+    (λ alive w met. (let low = untouched_chain touched parts u one fresh lent lives alive w met in step_same (bore parts w) (bears parts w) (holder (noted_holdings parts)) (holder (holdings parts)) w (tells.bear w low) (tells.hold w low)))
 
 -- ---- what threads bear and bore
 
@@ -206,7 +202,7 @@ flat_holdings old new e = flat_kept (λ (p : ClusterPart). p.holdings.owners) (�
 -- ---- contributions made anew
 
 -- a thread contributes what its reach tells
-pub reach_is : (bear : ℕ → Bearing) (hold : ℕ → Option Holding) (u c t : ℕ) (home : Option ℕ) (own : ℕ) (flags : List Bool) → home ≡ home_of (bear u) → own ≡ own_by bear hold u → ((t : ℕ) → flagged flags t ≡ reached_by (step_by bear hold) u t) → reach_to home own flags c t ≡ contributed bear hold t c u
+pub reach_is : (bear : ℕ → Bearing) (hold : ℕ → Option Holding) (u c t : ℕ) (home : Option ℕ) (own : ℕ) (flags : IndexSet) → home ≡ home_of (bear u) → own ≡ own_by bear hold u → ((t : ℕ) → flagged flags t ≡ reached_by (step_by bear hold) u t) → reach_to home own flags c t ≡ contributed bear hold t c u
 unfolding contributed
 reach_is bear hold u c t home own flags at is met = rw (at, is, met t) (by (has_begun (bear u).life)) where
   by : (b : Bool) → cond (is_home c (cond b (Some (bear u).home) None) && reached_by (step_by bear hold) u t) (Some (own_by bear hold u)) None ≡ cond (b && (((bear u).home == c) && reached_by (step_by bear hold) u t)) (Some (own_by bear hold u)) None

@@ -4,23 +4,25 @@ use Rattle.std.specs.Prelude.{IfSome, IsTrue, ◌↔◌}
 use Rattle.std.specs.List.{slice_set, AllByRecursion}
 use Rattle.std.proofs.lemmas.Bool.Decides.{nat_tests}
 use Rattle.std.proofs.lemmas.List.{get_or_past, take_more_set}
-use Rattle.rk_model.specs.Lists.{nth, has}
+use Rattle.rk_model.specs.Lists.{nth, has, with_nth}
 use Rattle.rk_model.specs.State.{SemaphoreState, no_semaphore}
 use Rattle.rk_model.specs.Directives.Objects.{has_begun}
 use Rattle.rk_model.specs.declared.state.Thread.{Thread}
-use Rattle.rk_model.proofs.IndexLemmas.{nth-with_other, nth-with_holds}
+use Rattle.rk_model.proofs.IndexLemmas.{nth-with_same, nth-with_other, nth-with_holds}
 use Rattle.std.proofs.lemmas.Bool.{true≢false}
-use Rattle.rk_model.proofs.BooleanLemmas.{equal_test, or_front, or_back}
+use Rattle.rk_model.proofs.BooleanLemmas.{equal_test, same_number, or_front, or_back}
 use Rattle.rk_parts.specs.declared.parts.ClusterPart.{ClusterPart}
 use Rattle.rk_parts.specs.Holdings.{first_one, holder, holding_of, holdings, no_holdings, own, with_owner, AreHeld, IsNotedIn}
 use Rattle.rk_parts.specs.Joined.{lives_in, present_of, threads_of, thread_lent}
 use Rattle.rk_parts.specs.Lent.{found_in, layout, account_in, stored_in, NotesOwner}
 use Rattle.rk_parts.specs.declared.holdings.Holding.{Holding}
-use Rattle.rk_parts.specs.Held.{Held, RaiseNone, RaisesNone, AreHeldKept}
+use Rattle.rk_model.specs.IndexSets.{is_in}
+use Rattle.rk_model.specs.declared.index_set.IndexSet.{IndexSet}
+use Rattle.rk_parts.specs.Held.{Held, HasNoCeiling, RaiseNone, RaisesNone, AreHeldKept}
 use Rattle.rk_parts.specs.Noted.{settled_part, bare}
 use Rattle.rk_groups.proofs.FoundLemmas.{found_here, found_later}
 use Rattle.rk_parts.proofs.HeldLemmas.{lives_found}
-use Rattle.rk_parts.proofs.MarkLemmas.{all_noted, none_marked, set_is, unmarked}
+use Rattle.rk_parts.proofs.MarkLemmas.{all_noted, none_marked, nth_replicate, set_is, unmarked}
 use Rattle.rk_parts.specs.Threads.{AreApart}
 use Rattle.rk_parts.proofs.MappedPartLemmas.{mapped_kept, LeavesThreads, threads_mapped, clusters_mapped, found_mapped}
 use Rattle.rk_parts.proofs.PutLemmas.{thread_held, length_threads, lives_within}
@@ -42,14 +44,6 @@ held_kept old new semaphores now same owners held = λ i. ap (λ hs. holder hs i
 
 leaves : (i : ℕ) (owner : Option Holding) → LeavesThreads (with_owner i owner)
 leaves i owner = record { threads = λ p. refl; lined = λ p. refl; timers = λ p. refl }
-
-all_pushed : (P : ClusterPart → Type 0) (parts : List ClusterPart) (part : ClusterPart) → AllByRecursion P parts → P part → AllByRecursion P (parts ++ part ∷ [])
-all_pushed P [] part all one = (one, tt)
-all_pushed P (p ∷ ps) part all one = (all.0, all_pushed P ps part all.1 one)
-
--- one part more is as all before it are
-pub one_more_noted : (P : ClusterPart → Type 0) (parts : List ClusterPart) (at : ℕ) (next : ClusterPart) → at < length parts → AllByRecursion P (take at parts) → P next → AllByRecursion P (take (at + 1) (set parts at next))
-one_more_noted P parts at next within all one = subst (AllByRecursion P) (sym (take_more_set parts at next within)) (all_pushed P (take at parts) next all one)
 
 -- who holds another semaphore does so still
 holder_else : (i j : ℕ) (owner : Option Holding) (parts : List ClusterPart) → j ≢ i → holder (holdings (map (with_owner i owner) parts)) j ≡ holder (holdings parts) j
@@ -108,17 +102,6 @@ notes i owner parts noted lives = record {
   by j true e = let same : j ≡ i = grind (arith, nat_tests, e) in ap (holder (holdings (map change parts))) same ∙ noted_holder i owner parts noted lives
   by j false e = holder_else i j owner parts (λ q. grind (arith, nat_tests, e, q))
 
--- where nothing is got at an index from 1, nothing stands there
-pub none_got : (xs : List (Option Holding)) (i : ℕ) → 1 ≤ i → slice_get xs (i - 1) ≡ None → nth None xs i ≡ None
-none_got xs zero low none = absurd (never low) where
-  never : 1 ≤ 0 → ⊥
-  never h = omega (arith, h)
-none_got xs (suc i) low none = (let same : suc i - 1 ≡ i = omega arith in past xs i (rw same at none)) where
-  past : (xs : List (Option Holding)) (i : ℕ) → slice_get xs i ≡ None → get_or xs i None ≡ None
-  past [] i e = refl
-  past (x ∷ xs) zero e = let no : ⊥ = cc in absurd no
-  past (x ∷ xs) (suc i) e = past xs i e
-
 -- none is held at the opening
 none_raises : (n i : ℕ) → RaisesNone (nth None (replicate n None) i)
 none_raises n zero = tt
@@ -126,8 +109,11 @@ none_raises zero (suc i) = tt
 none_raises (suc n) (suc zero) = tt
 none_raises (suc n) (suc (suc i)) = none_raises n (suc i)
 
-pub none_held : (owners noted : List (Option Holding)) (changed : List ℕ) → owners ≡ replicate 64 None → noted ≡ replicate 64 None → changed ≡ [] → AreHeldKept changed false (record { owners = owners; noted = noted })
-none_held owners noted changed a b none = rw (a, b, none) (record { owners_each = refl; noted_each = refl; apart = none_marked; as_noted = λ t h. refl; plain = λ e. record { now = none_raises 64; before = none_raises 64 } })
+none_capped : (n i : ℕ) → HasNoCeiling (nth None (replicate n None) i)
+none_capped n i = subst HasNoCeiling (sym (nth_replicate None n i)) tt
+
+pub none_held : (owners noted : List (Option Holding)) (changed : List ℕ) (capped : IndexSet) → owners ≡ replicate 64 None → noted ≡ replicate 64 None → changed ≡ [] → AreHeldKept changed capped false (record { owners = owners; noted = noted })
+none_held owners noted changed capped a b none = rw (a, b, none) (record { owners_each = refl; noted_each = refl; apart = none_marked; as_noted = λ t h. refl; uncapped = λ i out. none_capped 64 i; plain = λ e. record { now = none_raises 64; before = none_raises 64 } })
 
 pub held_opened : (owners noted : List (Option Holding)) → owners ≡ replicate 64 None → noted ≡ replicate 64 None → (let h : Held = record { owners = owners; noted = noted } in h) ≡ no_holdings
 held_opened owners noted a b = λ i. record { owners = a i; noted = b i }
@@ -151,8 +137,8 @@ plain_written owners noted now raised next i holding low put kept none were off 
 -- ---- which changed
 
 -- one more was written, which is among the changed ones then
-pub kept_written : (owners noted now : List (Option Holding)) (changed next : List ℕ) (may raised : Bool) (i : ℕ) (holding : Option Holding) → 1 ≤ i → now ≡ slice_set owners (i - 1) holding → AreApart next → ((j : ℕ) → has next j ≡ ((i == j) || has changed j)) → (raised ≡ false → may ≡ false) → (raised ≡ false → RaisesNone holding) → AreHeldKept changed may (record { owners = owners; noted = noted }) → AreHeldKept next raised (record { owners = now; noted = noted })
-kept_written owners noted now changed next may raised i holding low put apart marks kept none were = record {
+pub kept_written : (owners noted now : List (Option Holding)) (changed next : List ℕ) (capped caps : IndexSet) (may raised : Bool) (i : ℕ) (holding : Option Holding) → 1 ≤ i → i ≤ 64 → now ≡ slice_set owners (i - 1) holding → AreApart next → ((j : ℕ) → has next j ≡ ((i == j) || has changed j)) → (is_in caps i ≡ false → HasNoCeiling holding) → ((j : ℕ) → j ≢ i → is_in caps j ≡ is_in capped j) → (raised ≡ false → may ≡ false) → (raised ≡ false → RaisesNone holding) → AreHeldKept changed capped may (record { owners = owners; noted = noted }) → AreHeldKept next caps raised (record { owners = now; noted = noted })
+kept_written owners noted now changed next capped caps may raised i holding low high put apart marks here others kept none were = record {
   owners_each = ap (λ (xs : List (Option Holding)). length xs) put ∙ length-set owners (i - 1) holding ∙ were.owners_each;
   noted_each = were.noted_each;
   apart = apart;
@@ -160,11 +146,23 @@ kept_written owners noted now changed next may raised i holding low put apart ma
       ap (λ (xs : List (Option Holding)). nth None xs j) (put ∙ set_is owners i i holding refl low)
       ∙ nth-with_other None holding owners i j other.0
       ∙ were.as_noted j other.1);
+  uncapped = λ j out. caps_at j out (j == i) refl;
   plain = plain_written owners noted now may raised i holding low put kept none were.plain;
-}
+} where
+  written : (j : ℕ) → nth None now j ≡ nth None (with_nth owners i holding) j
+  written j = ap (λ (xs : List (Option Holding)). nth None xs j) (put ∙ set_is owners i i holding refl low)
 
-pub nothing_changed : (owners noted : List (Option Holding)) (changed : List ℕ) (may : Bool) → changed ≡ [] → AreHeldKept changed may (record { owners = owners; noted = noted }) → owners ≡ noted
-nothing_changed owners noted changed may none kept = sym (all_noted None owners changed noted kept.owners_each kept.noted_each none kept.as_noted)
+  caps_at : (j : ℕ) → is_in caps j ≡ false → (b : Bool) → (j == i) ≡ b → HasNoCeiling (nth None now j)
+  caps_at j out true e =
+      let same : i ≡ j = sym (same_number j i e) in
+      let size = were.owners_each in
+      subst (λ n. HasNoCeiling (nth None now n)) same (subst HasNoCeiling (sym (written i ∙ nth-with_same None holding owners i (omega (arith, low)) (omega (arith, high, size)))) (here (ap (is_in caps) same ∙ out)))
+  caps_at j out false e =
+      let other : j ≢ i = λ q. (let no : ⊥ = grind (arith, nat_tests, e, q) in absurd no) in
+      subst HasNoCeiling (sym (written j ∙ nth-with_other None holding owners i j other)) (were.uncapped j (sym (others j other) ∙ out))
+
+pub nothing_changed : (owners noted : List (Option Holding)) (changed : List ℕ) (capped : IndexSet) (may : Bool) → changed ≡ [] → AreHeldKept changed capped may (record { owners = owners; noted = noted }) → owners ≡ noted
+nothing_changed owners noted changed capped may none kept = sym (all_noted None owners changed noted kept.owners_each kept.noted_each none kept.as_noted)
 
 pub is_none : (b : Bool) (xs : List ℕ) → (IsTrue b ↔ (xs ≡ [])) → not b ≡ false → xs ≡ []
 is_none true xs is e = is.0 refl

@@ -68,12 +68,6 @@ apart_marked marked next u apart none low high is =
 pub none_marked : AreApart []
 none_marked = record { once = λ t. omega arith; within = λ t h. absurd (false≢true h) }
 
-pub marks_same : (marked : List ℕ) (u : ℕ) → has marked u ≡ true → (t : ℕ) → has marked t ≡ ((u == t) || has marked t)
-marks_same marked u there t = by (u == t) refl where
-  by : (b : Bool) → (u == t) ≡ b → has marked t ≡ (b || has marked t)
-  by true e = let same : u ≡ t = grind (arith, nat_tests, e) in ap (has marked) (sym same) ∙ there
-  by false e = refl
-
 pub unmarked : (marked next : List ℕ) (u t : ℕ) → ((v : ℕ) → has next v ≡ ((u == v) || has marked v)) → has next t ≡ false → (t ≢ u) × (has marked t ≡ false)
 unmarked marked next u t marks none = by (u == t) refl (sym (marks t) ∙ none) where
   by : (b : Bool) → (u == t) ≡ b → (b || has marked t) ≡ false → (t ≢ u) × (has marked t ≡ false)

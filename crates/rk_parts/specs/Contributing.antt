@@ -2,6 +2,7 @@
 use Rattle.std.specs.Prelude.{ℕ, ◌≡◌, ◌≢◌, ◌<◌, List, Bool, true, false, ◌==◌, Option, None, Some, length}
 use Rattle.rk_model.specs.declared.state.Wait.{Wait}
 use Rattle.rk_model.specs.declared.state.Wait.TheVariants.{ForTime, ForEvents, AtBarrier, ForPeriod, ForSemaphore}
+use Rattle.rk_model.specs.declared.index_set.IndexSet.{IndexSet}
 use Rattle.rk_model.specs.Lists.{nth}
 use Rattle.rk_model.specs.Directives.Objects.{has_begun}
 use Rattle.rk_agg.specs.Shares.{found}
@@ -37,7 +38,7 @@ abbrev pub Lives : List ClusterPart → Type 0
 Lives parts = (u : ℕ) → has_begun (bore parts u).life ≡ true → (at : ℕ) × ((at < length parts) × ((part_at parts at).lined.number ≡ (bore parts u).home))
 
 -- A thread has no flag in the first, and contributed to none that has.
-pub record IsFresh (touched : List Bool) (parts : List ClusterPart) (u : ℕ) : Type 0 where
+pub record IsFresh (touched : IndexSet) (parts : List ClusterPart) (u : ℕ) : Type 0 where
   pub self : flagged touched u ≡ false
   pub others : (at w : ℕ) → at < length parts → flagged touched w ≡ true → share_at parts at w u ≡ None
 

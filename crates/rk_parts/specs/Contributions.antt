@@ -4,6 +4,8 @@ use Rattle.std.specs.List.{slice_index_or}
 use Rattle.rk_model.specs.declared.limits.TheConstants.{MOST_OBJECTS}
 use Rattle.rk_model.specs.declared.state.Wait.{Wait}
 use Rattle.rk_model.specs.declared.state.Wait.TheVariants.{ForTime, ForEvents, AtBarrier, ForPeriod, ForSemaphore}
+use Rattle.rk_model.specs.IndexSets.{is_in}
+use Rattle.rk_model.specs.declared.index_set.IndexSet.{IndexSet}
 use Rattle.rk_model.specs.Lists.{nth}
 use Rattle.rk_model.specs.Queues.{lesser}
 use Rattle.rk_model.specs.Directives.Objects.{has_begun}
@@ -83,8 +85,8 @@ IsOne t = (1 ≤ t) × (t ≤ MOST_OBJECTS)
 -- ---- flags
 
 -- whether the flag of a thread is raised
-abbrev pub flagged : List Bool → ℕ → Bool
-flagged flags t = nth false flags t
+abbrev pub flagged : IndexSet → ℕ → Bool
+flagged flags t = is_in flags t
 
 -- A thread neither owned nor owns a semaphore whose holding changed, and doesn't wait for it where it lends or lent then.
 pub record IsApart (was now : Option Holding) (i t : ℕ) (wait : Option Wait) : Type 0 where
@@ -101,5 +103,5 @@ is_home c None = false
 is_home c (Some home) = home == c
 
 -- what a thread with this home and own priority contributes to another in a cluster, where the flags of those are raised that its chain reaches
-abbrev pub reach_to : Option ℕ → ℕ → List Bool → ℕ → ℕ → Option ℕ
+abbrev pub reach_to : Option ℕ → ℕ → IndexSet → ℕ → ℕ → Option ℕ
 reach_to home own flags c t = if is_home c home && flagged flags t then Some own else None

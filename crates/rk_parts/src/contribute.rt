@@ -4,9 +4,10 @@
 //! contributes can change only where a thread of the chain that it had was touched: so the contributions
 //! themselves tell which threads have to contribute anew.
 
-ghost use Rattle.std.specs.Prelude.{◌≡◌, ◌≢◌, ◌<◌, ◌≤◌, ◌||◌, ◌==◌, ◌⊎◌, ℕ, List, Bool, Some, None, IsTrue, false, true, length, map, if◌then◌else◌};
+ghost use Rattle.std.specs.Prelude.{◌≡◌, ◌≢◌, ◌<◌, ◌≤◌, ◌&&◌, ◌||◌, ◌==◌, ◌⊎◌, ℕ, List, Bool, Some, None, IsTrue, false, true, length, map, if◌then◌else◌};
 ghost use Rattle.rk_model.specs.declared.limits.TheConstants.{MOST_CLUSTERS, MOST_OBJECTS};
 ghost use Rattle.rk_model.specs.declared.state.Wait.TheVariants.{ForSemaphore};
+ghost use Rattle.rk_model.specs.IndexSets.{is_in};
 ghost use Rattle.rk_model.specs.Lists.{nth};
 ghost use Rattle.rk_model.specs.Queues.{lesser};
 ghost use Rattle.rk_model.specs.Scheduling.Priorities.{if_some};
@@ -14,7 +15,7 @@ ghost use Rattle.rk_agg.specs.Shares.{found};
 ghost use Rattle.rk_parts.specs.Contributions.{bears, bore, borrower_by, borrower_of, ceiling_by, contributed, flagged, home_of, is_home, least_ceiling, own_by, reach_to, reached_by, step_by, IsApart, IsOne};
 ghost use Rattle.rk_parts.specs.Contributing.{bears_at, bore_at, flat, waits_for, AreAlone, AreAsElsewhere, AreHomes, AsElsewhere, BearsAsBorne, IsFresh, IsHeldAsNoted, Lives};
 ghost use Rattle.rk_parts.specs.Holdings.{holder, holdings, noted_holdings};
-ghost use Rattle.rk_parts.specs.Held.{RaisesNone};
+ghost use Rattle.rk_parts.specs.Held.{HasNoCeiling, RaisesNone};
 ghost use Rattle.rk_parts.specs.Noted.{part_at, share_at, AreLent, NoneElsewhere};
 ghost use Rattle.rk_parts.specs.Threads.{unlent};
 
@@ -24,37 +25,28 @@ use crate::parts::ClusterPart;
 use crate::threads::Threads;
 use rk_agg::lesser_of;
 use rk_model::limits::MOST_OBJECTS;
-use rk_model::{Life, Prio, ThreadIx, Wait};
+use rk_model::{IndexSet, Life, Prio, ThreadIx, Wait};
 
 // ---- flags
 
 /// Raises the flag of a thread.
-fn raise(flags: &mut [bool], thread: ThreadIx)
-    requires { length flags.old ≡ MOST_OBJECTS }
-    ensures size { length flags.new ≡ MOST_OBJECTS }
-    ensures raised { (u : ℕ) → flagged flags.new u ≡ ((thread == u) || flagged flags.old u) }
+fn raise(flags: &mut IndexSet, thread: ThreadIx)
+    ensures { (u : ℕ) → flagged flags.new u ≡ ((thread == u) || flagged flags.old u) }
 {
-    // Reading the index tells its range.
-    let _index = thread.at();
-    flags[thread.at() as usize - 1] = true;
+    flags.insert(thread.at());
 }
 
 /// Whether the flag of a thread is raised.
-fn is_raised(flags: &[bool], thread: ThreadIx) -> bool
+fn is_raised(flags: &IndexSet, thread: ThreadIx) -> bool
     ensures { result ≡ flagged flags.now thread }
 {
-    match flags.get(thread.at() as usize - 1) {
-        Some(flag) => *flag,
-        None => false,
-    }
+    flags.contains(thread.at())
 }
 
 // ---- which threads were touched
 
 /// Raises the flag of each thread that was marked in a part.
-fn touch_in(part: &ClusterPart, touched: &mut [bool])
-    requires { length touched.old ≡ MOST_OBJECTS }
-    ensures size { length touched.new ≡ MOST_OBJECTS }
+fn touch_in(part: &ClusterPart, touched: &mut IndexSet)
     ensures kept { (t : ℕ) → flagged touched.new t ≡ false → flagged touched.old t ≡ false }
     ensures rest { (t : ℕ) → flagged touched.new t ≡ false → BearsAsBorne part.now t }
 {
@@ -65,9 +57,7 @@ fn touch_in(part: &ClusterPart, touched: &mut [bool])
 }
 
 /// Raises the flag of each thread that was marked.
-fn touch_marked(clusters: &[ClusterPart], touched: &mut [bool])
-    requires { length touched.old ≡ MOST_OBJECTS }
-    ensures size { length touched.new ≡ MOST_OBJECTS }
+fn touch_marked(clusters: &[ClusterPart], touched: &mut IndexSet)
     ensures kept { (t : ℕ) → flagged touched.new t ≡ false → flagged touched.old t ≡ false }
     ensures rest { (t : ℕ) → flagged touched.new t ≡ false → bears clusters.now t ≡ bore clusters.now t }
 {
@@ -93,9 +83,7 @@ fn borrower_of(holding: &Option<Holding>) -> Option<ThreadIx>
 }
 
 /// Raises the flag of a semaphore's owner, if it has one.
-fn touch_owner(holding: &Option<Holding>, touched: &mut [bool])
-    requires { length touched.old ≡ MOST_OBJECTS }
-    ensures size { length touched.new ≡ MOST_OBJECTS }
+fn touch_owner(holding: &Option<Holding>, touched: &mut IndexSet)
     ensures kept { (t : ℕ) → flagged touched.new t ≡ false → flagged touched.old t ≡ false }
     ensures owner { (t c : ℕ) → flagged touched.new t ≡ false → ceiling_by t c holding.now ≡ None }
 {
@@ -116,9 +104,7 @@ fn waits_for(clusters: &[ClusterPart], thread: ThreadIx, index: u16) -> bool
 }
 
 /// Raises the flag of each thread that waits for a semaphore.
-fn touch_waiters(clusters: &[ClusterPart], index: u16, touched: &mut [bool])
-    requires { length touched.old ≡ MOST_OBJECTS }
-    ensures size { length touched.new ≡ MOST_OBJECTS }
+fn touch_waiters(clusters: &[ClusterPart], index: u16, touched: &mut IndexSet)
     ensures kept { (t : ℕ) → flagged touched.new t ≡ false → flagged touched.old t ≡ false }
     ensures waiters { (t : ℕ) → flagged touched.new t ≡ false → waits_for (bears clusters.now t).wait index ≡ false }
 {
@@ -144,10 +130,8 @@ fn touch_owners(
     index: u16,
     was: &Option<Holding>,
     now: &Option<Holding>,
-    touched: &mut [bool],
+    touched: &mut IndexSet,
 )
-    requires { length touched.old ≡ MOST_OBJECTS }
-    ensures size { length touched.new ≡ MOST_OBJECTS }
     ensures kept { (t : ℕ) → flagged touched.new t ≡ false → flagged touched.old t ≡ false }
     ensures apart { (t : ℕ) → flagged touched.new t ≡ false → IsApart was.now now.now index t (bears clusters.now t).wait }
 {
@@ -159,9 +143,7 @@ fn touch_owners(
 }
 
 /// The same, where it is held otherwise than before.
-fn touch_change(clusters: &[ClusterPart], index: u16, touched: &mut [bool])
-    requires { length touched.old ≡ MOST_OBJECTS }
-    ensures size { length touched.new ≡ MOST_OBJECTS }
+fn touch_change(clusters: &[ClusterPart], index: u16, touched: &mut IndexSet)
     ensures kept { (t : ℕ) → flagged touched.new t ≡ false → flagged touched.old t ≡ false }
     ensures apart { (t : ℕ) → flagged touched.new t ≡ false → IsApart (holder (noted_holdings clusters.now) index) (holder (holdings clusters.now) index) index t (bears clusters.now t).wait }
 {
@@ -173,10 +155,8 @@ fn touch_change(clusters: &[ClusterPart], index: u16, touched: &mut [bool])
 }
 
 /// Raises the flags of those whom the holdings touch that changed in a part.
-fn touch_changed(clusters: &[ClusterPart], at: usize, touched: &mut [bool])
-    requires size { length touched.old ≡ MOST_OBJECTS }
+fn touch_changed(clusters: &[ClusterPart], at: usize, touched: &mut IndexSet)
     requires within { at < length clusters.now }
-    ensures size { length touched.new ≡ MOST_OBJECTS }
     ensures kept { (t : ℕ) → flagged touched.new t ≡ false → flagged touched.old t ≡ false }
     ensures apart { (t : ℕ) → flagged touched.new t ≡ false → (i : ℕ) → IsApart (holder (noted_holdings clusters.now) i) (holder (holdings clusters.now) i) i t (bears clusters.now t).wait ⊎ IsHeldAsNoted (part_at clusters.now at) i }
 {
@@ -187,9 +167,7 @@ fn touch_changed(clusters: &[ClusterPart], at: usize, touched: &mut [bool])
 }
 
 /// Raises the flags of those whom changed holdings touch.
-fn touch_held(clusters: &[ClusterPart], touched: &mut [bool])
-    requires { length touched.old ≡ MOST_OBJECTS }
-    ensures size { length touched.new ≡ MOST_OBJECTS }
+fn touch_held(clusters: &[ClusterPart], touched: &mut IndexSet)
     ensures kept { (t : ℕ) → flagged touched.new t ≡ false → flagged touched.old t ≡ false }
     ensures apart { (t : ℕ) → flagged touched.new t ≡ false → (i : ℕ) → IsApart (holder (noted_holdings clusters.now) i) (holder (holdings clusters.now) i) i t (bears clusters.now t).wait }
 {
@@ -201,31 +179,25 @@ fn touch_held(clusters: &[ClusterPart], touched: &mut [bool])
 // ---- who has to contribute anew
 
 /// Raises the flag of each thread that contributes to another.
-fn flag_sources(clusters: &[ClusterPart], thread: ThreadIx, stale: &mut [bool])
-    requires { length stale.old ≡ MOST_OBJECTS }
-    ensures size { length stale.new ≡ MOST_OBJECTS }
+fn flag_sources(clusters: &[ClusterPart], thread: ThreadIx, stale: &mut IndexSet)
     ensures kept { (u : ℕ) → flagged stale.new u ≡ false → flagged stale.old u ≡ false }
     ensures all { (at u : ℕ) → at < length clusters.now → flagged stale.new u ≡ false → share_at clusters.now at thread u ≡ None }
 {
     for at in 0..clusters.len() {
         let number = clusters[at].lined.number();
-        clusters[at].threads.flag_sources(thread, number, stale);
+        stale.insert_all(clusters[at].threads.sources(thread, number));
     }
 }
 
 /// Raises the flag of each touched thread, and of each that contributes to a touched one.
-fn find_stale(clusters: &[ClusterPart], touched: &[bool], stale: &mut [bool])
-    requires size { length stale.old ≡ MOST_OBJECTS }
-    requires touched { length touched.now ≡ MOST_OBJECTS }
-    ensures size { length stale.new ≡ MOST_OBJECTS }
-    ensures fresh { (u : ℕ) → flagged stale.new u ≡ false → IsFresh touched.now clusters.now u }
+fn find_stale(clusters: &[ClusterPart], touched: &IndexSet, stale: &mut IndexSet)
+    ensures { (u : ℕ) → flagged stale.new u ≡ false → IsFresh touched.now clusters.now u }
 {
-    for at in 0..MOST_OBJECTS {
-        let thread = ThreadIx::new(at as u8 + 1);
-        if is_raised(touched, thread) {
-            raise(stale, thread);
-            flag_sources(clusters, thread, stale);
-        }
+    let mut rest = *touched;
+    'finding: while let Some(at) = rest.take_least() {
+        let thread = ThreadIx::new(at);
+        raise(stale, thread);
+        flag_sources(clusters, thread, stale);
     }
 }
 
@@ -242,11 +214,9 @@ fn lends_to(clusters: &[ClusterPart], thread: ThreadIx) -> Option<ThreadIx>
 }
 
 /// Raises the flag of each thread that the chain of a thread reaches, where no flag is raised.
-fn flag_chain(clusters: &[ClusterPart], from: ThreadIx, flags: &mut [bool])
-    requires size { length flags.old ≡ MOST_OBJECTS }
-    requires none { (t : ℕ) → flagged flags.old t ≡ false }
-    ensures size { length flags.new ≡ MOST_OBJECTS }
-    ensures chain { (t : ℕ) → flagged flags.new t ≡ reached_by (step_by (bears clusters.now) (holder (holdings clusters.now))) from t }
+fn flag_chain(clusters: &[ClusterPart], from: ThreadIx, flags: &mut IndexSet)
+    requires { (t : ℕ) → flagged flags.old t ≡ false }
+    ensures { (t : ℕ) → flagged flags.new t ≡ reached_by (step_by (bears clusters.now) (holder (holdings clusters.now))) from t }
 {
     let mut at = from;
     for _step in 0..MOST_OBJECTS {
@@ -288,13 +258,25 @@ fn ceiling_of(holding: &Option<Holding>, thread: ThreadIx, cluster: u8) -> Optio
     }
 }
 
+/// The semaphores with ceilings that threads of the parts own.
+fn with_ceilings(clusters: &[ClusterPart]) -> IndexSet
+    ensures { (i : ℕ) → is_in result i ≡ false → HasNoCeiling (holder (holdings clusters.now) i) }
+{
+    let mut capped = IndexSet::empty();
+    for part in clusters {
+        capped.insert_all(part.holdings.with_ceilings());
+    }
+    capped
+}
+
 /// The least of the ceilings in a cluster of the semaphores that a thread owns.
 fn least_ceiling(clusters: &[ClusterPart], thread: ThreadIx, cluster: u8) -> Option<Prio>
     ensures { result ≡ least_ceiling (holder (holdings clusters.now)) thread cluster }
 {
+    let mut rest = with_ceilings(clusters);
     let mut best = None;
-    for at in 0..MOST_OBJECTS {
-        let holding = holder(clusters, at as u16 + 1);
+    'comparing: while let Some(at) = rest.take_least() {
+        let holding = holder(clusters, u16::from(at));
         best = lesser_of(best, ceiling_of(&holding, thread, cluster));
     }
     best
@@ -344,7 +326,7 @@ fn is_home(cluster: u8, home: Option<u8>) -> bool
 fn reach_to(
     home: Option<u8>,
     own: Prio,
-    flags: &[bool],
+    flags: &IndexSet,
     cluster: u8,
     thread: ThreadIx,
 ) -> Option<Prio>
@@ -357,6 +339,25 @@ fn reach_to(
     }
 }
 
+/// To whom a thread contributes in a cluster, or is to contribute, with this home and flags of those that its
+/// chain reaches.
+fn old_and_new(
+    threads: &Threads,
+    cluster: u8,
+    source: ThreadIx,
+    home: Option<u8>,
+    flags: &IndexSet,
+) -> IndexSet
+    ensures { (t : ℕ) → is_in result t ≡ false → (found threads.now.shares t cluster source ≡ None) × ((is_home cluster home && flagged flags.now t) ≡ false) }
+{
+    let mut all = threads.targets(source, cluster);
+    if is_home(cluster, home) {
+        all.insert_all(*flags);
+        return all;
+    }
+    all
+}
+
 /// Lets a thread contribute this in a cluster, whatever it contributed.
 fn relend_each(
     threads: &mut Threads,
@@ -364,22 +365,29 @@ fn relend_each(
     source: ThreadIx,
     home: Option<u8>,
     own: Prio,
-    flags: &[bool],
+    flags: &IndexSet,
 )
     requires { cluster < MOST_CLUSTERS }
     ensures rest { unlent threads.new ≡ unlent threads.old }
     ensures shares { (t w : ℕ) → IsOne t → found threads.new.shares t cluster w ≡ (if w == source then reach_to home own flags.now cluster t else found threads.old.shares t cluster w) }
     ensures elsewhere { (t d w : ℕ) → d ≢ cluster → found threads.new.shares t d w ≡ found threads.old.shares t d w }
 {
-    for at in 0..MOST_OBJECTS {
-        let thread = ThreadIx::new(at as u8 + 1);
+    let mut rest = old_and_new(threads, cluster, source, home, flags);
+    'lending: while let Some(at) = rest.take_least() {
+        let thread = ThreadIx::new(at);
         let prio = reach_to(home, own, flags, cluster, thread);
         threads.lend(thread, cluster, source, &prio);
     }
 }
 
 /// Lets a thread contribute this in a part, whatever it contributed.
-fn relend_in(part: &mut ClusterPart, source: ThreadIx, home: Option<u8>, own: Prio, flags: &[bool])
+fn relend_in(
+    part: &mut ClusterPart,
+    source: ThreadIx,
+    home: Option<u8>,
+    own: Prio,
+    flags: &IndexSet,
+)
     ensures flat { flat part.new ≡ flat part.old }
     ensures shares { (t w : ℕ) → IsOne t → found part.new.threads.shares t part.old.lined.number w ≡ (if w == source then reach_to home own flags.now part.old.lined.number t else found part.old.threads.shares t part.old.lined.number w) }
     ensures elsewhere { AsElsewhere part.old part.new }
@@ -394,7 +402,7 @@ fn relend(
     source: ThreadIx,
     home: Option<u8>,
     own: Prio,
-    flags: &[bool],
+    flags: &IndexSet,
 )
     ensures flat { map flat clusters.new ≡ map flat clusters.old }
     ensures shares { (at t w : ℕ) → at < length clusters.old → IsOne t → share_at clusters.new at t w ≡ (if w == source then reach_to home own flags.now (part_at clusters.old at).lined.number t else share_at clusters.old at t w) }
@@ -411,7 +419,7 @@ fn remake(clusters: &mut [ClusterPart], source: ThreadIx)
     ensures shares { (at t w : ℕ) → at < length clusters.old → IsOne t → share_at clusters.new at t w ≡ (if w == source then contributed (bears clusters.old) (holder (holdings clusters.old)) t (part_at clusters.old at).lined.number source else share_at clusters.old at t w) }
     ensures elsewhere { AreAsElsewhere clusters.old clusters.new }
 {
-    let mut flags = [false; MOST_OBJECTS];
+    let mut flags = IndexSet::empty();
     flag_chain(clusters, source, &mut flags);
     let home = home_of(clusters, source);
     let own = own(clusters, source);
@@ -419,17 +427,15 @@ fn remake(clusters: &mut [ClusterPart], source: ThreadIx)
 }
 
 /// Lets these threads contribute anew.
-fn remake_each(clusters: &mut [ClusterPart], stale: &[bool])
+fn remake_each(clusters: &mut [ClusterPart], stale: &IndexSet)
     requires same { (at t u : ℕ) → at < length clusters.old → IsOne t → IsOne u → flagged stale.now u ≡ false → share_at clusters.old at t u ≡ contributed (bears clusters.old) (holder (holdings clusters.old)) t (part_at clusters.old at).lined.number u }
     requires elsewhere { NoneElsewhere clusters.old }
     ensures flat { map flat clusters.new ≡ map flat clusters.old }
     ensures shares { AreLent (bears clusters.old) (holder (holdings clusters.old)) clusters.new }
 {
-    for at in 0..MOST_OBJECTS {
-        let thread = ThreadIx::new(at as u8 + 1);
-        if is_raised(stale, thread) {
-            remake(clusters, thread);
-        }
+    let mut rest = *stale;
+    'remaking: while let Some(at) = rest.take_least() {
+        remake(clusters, ThreadIx::new(at));
     }
 }
 
@@ -481,10 +487,10 @@ fn contribute_anew(clusters: &mut [ClusterPart])
     ensures flat { map flat clusters.new ≡ map flat clusters.old }
     ensures lent { AreLent (bears clusters.old) (holder (holdings clusters.old)) clusters.new }
 {
-    let mut touched = [false; MOST_OBJECTS];
+    let mut touched = IndexSet::empty();
     touch_marked(clusters, &mut touched);
     touch_held(clusters, &mut touched);
-    let mut stale = [false; MOST_OBJECTS];
+    let mut stale = IndexSet::empty();
     find_stale(clusters, &touched, &mut stale);
     remake_each(clusters, &stale);
 }

@@ -1,13 +1,14 @@
 //! Who owns which semaphore, and what it does to priorities, as it stands with the owners: in the part of
 //! an owner's home.
 
-ghost use Rattle.std.specs.Prelude.{◌≡◌, ◌≤◌, ◌||◌, ◌==◌, ℕ, None, IfOk, IfSome, IsTrue, true, false, length};
+ghost use Rattle.std.specs.Prelude.{◌≡◌, ◌≢◌, ◌≤◌, ◌||◌, ◌==◌, ℕ, None, IfOk, IfSome, IsTrue, true, false, length};
 ghost use Rattle.std.specs.List.{slice_index_or};
 ghost use Rattle.rk_model.specs.declared.limits.TheConstants.{MOST_OBJECTS};
 ghost use Rattle.rk_model.specs.Directives.Objects.{has_begun};
 ghost use Rattle.rk_model.specs.Scheduling.Chains.{lends};
+ghost use Rattle.rk_model.specs.IndexSets.{is_in};
 ghost use Rattle.rk_model.specs.Lists.{has, nth, with_nth};
-ghost use Rattle.rk_parts.specs.Held.{RaiseNone, RaisesNone};
+ghost use Rattle.rk_parts.specs.Held.{HasNoCeiling, RaiseNone, RaisesNone};
 ghost use Rattle.rk_parts.specs.HeldChains.{owner_of, waits_on_holder};
 ghost use Rattle.rk_parts.specs.Holdings.{holder, holdings, no_holdings, noted_holdings, with_owner, IsNotedIn};
 ghost use Rattle.rk_parts.specs.Joined.{thread_lent};
@@ -17,7 +18,7 @@ ghost use Rattle.rk_parts.specs.Threads.{AreApart, AsNoted};
 use crate::lent::thread_of;
 use crate::parts::ClusterPart;
 use rk_model::limits::{MOST_CLUSTERS, MOST_OBJECTS};
-use rk_model::{Bounded, Items, NoMemory, Protocol, ThreadIx, Wait};
+use rk_model::{Bounded, IndexSet, Items, NoMemory, Protocol, ThreadIx, Wait};
 use std::alloc::Global;
 use std::marker::Model;
 
@@ -43,6 +44,8 @@ pub struct Holdings {
     noted: Items<Option<Holding>>,
     /// Those that changed since the part settled; all others are as noted.
     changed: Changed,
+    /// Those with ceilings.
+    capped: IndexSet,
     /// Whether one that may raise a priority was ever written here.
     raised: bool,
 }
@@ -54,7 +57,7 @@ impl Model for Holdings {
 
     ghost view = { λ h. record { owners = h.owners; noted = h.noted } };
 
-    ghost invariant = { λ h. AreHeldKept h.changed h.raised (record { owners = h.owners; noted = h.noted }) };
+    ghost invariant = { λ h. AreHeldKept h.changed h.capped h.raised (record { owners = h.owners; noted = h.noted }) };
 }
 
 /// What stands at an index among these.
@@ -101,6 +104,30 @@ fn note_raise(raised: &mut bool, holding: &Option<Holding>)
 {
     if may_raise(holding) {
         *raised = true;
+    }
+}
+
+/// Whether a semaphore that is held so has a ceiling.
+fn has_ceilings(holding: &Option<Holding>) -> bool
+    ensures { result ≡ false → HasNoCeiling holding.now }
+{
+    match holding {
+        None => false,
+        Some(held) => are_ceilings(&held.ceilings),
+    }
+}
+
+/// Notes whether the semaphore of an index, which is held so, has a ceiling.
+fn note_ceilings(capped: &mut IndexSet, index: u16, holding: &Option<Holding>)
+    requires low { 1 ≤ index }
+    requires high { index ≤ MOST_OBJECTS }
+    ensures here { is_in capped.new index ≡ false → HasNoCeiling holding.now }
+    ensures others { (i : ℕ) → i ≢ index → is_in capped.new i ≡ is_in capped.old i }
+{
+    if has_ceilings(holding) {
+        capped.insert(index as u8);
+    } else {
+        capped.remove(index as u8);
     }
 }
 
@@ -171,6 +198,7 @@ impl Holdings {
             owners: Items::from_vec(owners),
             noted: Items::from_vec(noted),
             changed: Bounded::new(alloc)?,
+            capped: IndexSet::empty(),
             raised: false,
         })
     }
@@ -210,6 +238,13 @@ impl Holdings {
         self.raised
     }
 
+    /// The indices of those with ceilings: all others have none.
+    pub fn with_ceilings(&self) -> IndexSet
+        ensures { (i : ℕ) → is_in result i ≡ false → HasNoCeiling (nth None self.now.owners i) }
+    {
+        self.capped
+    }
+
     /// Notes how a thread of the part holds the semaphore of an index, if one does.
     pub fn set(&mut self, index: u16, holding: Option<Holding>)
         requires low { 1 ≤ index }
@@ -220,6 +255,7 @@ impl Holdings {
         let before = held_in(self.owners.as_slice(), index);
         if !is_same(&before, &holding) {
             note_raise(&mut self.raised, &holding);
+            note_ceilings(&mut self.capped, index, &holding);
             self.owners.set(index as usize - 1, holding);
             note_change(&mut self.changed, index);
         }

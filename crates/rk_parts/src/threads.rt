@@ -4,8 +4,9 @@
 //! Whoever writes a thread, or changes what is contributed to its priority, marks it, so that settling
 //! looks at the marked threads alone.
 
-ghost use Rattle.std.specs.Prelude.{◌≡◌, ◌≢◌, ◌<◌, ◌||◌, ◌==◌, ℕ, length, false, IfOk, IsTrue};
+ghost use Rattle.std.specs.Prelude.{◌≡◌, ◌≢◌, ◌<◌, ◌||◌, ◌==◌, ℕ, length, is_some, false, IfOk, IsTrue};
 ghost use Rattle.rk_model.specs.declared.limits.TheConstants.{MOST_CLUSTERS, MOST_OBJECTS};
+ghost use Rattle.rk_model.specs.IndexSets.{is_in};
 ghost use Rattle.rk_model.specs.Lists.{has, nth, with_nth};
 ghost use Rattle.rk_model.specs.State.{no_thread};
 ghost use Rattle.rk_model.specs.Directives.Objects.{has_begun};
@@ -17,7 +18,7 @@ use crate::bearing::{Bearing, bearing_of, is_ready, is_spinning, no_bearing};
 use crate::standing::not_standing;
 use rk_agg::Aggregates;
 use rk_model::limits::MOST_OBJECTS;
-use rk_model::{Bounded, Items, Life, NoMemory, Prio, Standing, Thread, ThreadIx, Wait};
+use rk_model::{Bounded, IndexSet, Items, Life, NoMemory, Prio, Standing, Thread, ThreadIx, Wait};
 use std::alloc::Global;
 use std::marker::Model;
 
@@ -325,14 +326,18 @@ impl Threads {
         self.shares.least(thread, cluster)
     }
 
-    /// Raises the flag of each thread that contributes here to another in a cluster.
-    pub fn flag_sources(&self, thread: ThreadIx, cluster: u8, flags: &mut [bool])
-        requires { length flags.old ≡ MOST_OBJECTS }
-        ensures size { length flags.new ≡ MOST_OBJECTS }
-        ensures kept { (u : ℕ) → nth false flags.new u ≡ false → nth false flags.old u ≡ false }
-        ensures all { (u : ℕ) → nth false flags.new u ≡ false → found self.now.shares thread cluster u ≡ None }
+    /// Who contributes here to a thread in a cluster.
+    pub fn sources(&self, thread: ThreadIx, cluster: u8) -> IndexSet
+        ensures { (u : ℕ) → is_in result u ≡ is_some (found self.now.shares thread cluster u) }
     {
-        self.shares.flag_sources(thread, cluster, flags);
+        self.shares.sources(thread, cluster)
+    }
+
+    /// To whom a thread contributes here in a cluster.
+    pub fn targets(&self, source: ThreadIx, cluster: u8) -> IndexSet
+        ensures { (t : ℕ) → is_in result t ≡ is_some (found self.now.shares t cluster source) }
+    {
+        self.shares.targets(source, cluster)
     }
 
     /// Puts another thread at an index.

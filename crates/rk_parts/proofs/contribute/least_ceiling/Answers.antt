@@ -1,16 +1,17 @@
-use Rattle.std.proofs.Common.{arith, ap, ◌∙◌}
+use Rattle.std.proofs.Common.{ap, ◌∙◌}
 use Rattle.rk_agg.specs.Shares.{least_source}
-use Rattle.rk_agg.proofs.ShareLemmas.{least_starts, least_goes_on, least_ends}
+use Rattle.rk_agg.proofs.ShareLemmas.{comparing_starts, comparing_goes_on, comparing_ends}
 use Rattle.rk_parts.specs.Contributions.{ceiling_by, least_ceiling}
 use Rattle.rk_parts.specs.Holdings.{holder, holdings}
+use Rattle.rk_parts.proofs.ContributingLemmas.{no_ceiling_raises}
 use Rattle.rk_parts.proofs.contribute.least_ceiling.Goals as goal
 
-pub loop-at-init : goal.loop-at-init
-loop-at-init c = least_starts (λ i. ceiling_by c.args.thread c.args.cluster (holder (holdings c.args.clusters.now) i))
+pub comparing-init : goal.comparing-init
+comparing-init c = comparing_starts (λ i. ceiling_by c.args.thread c.args.cluster (holder (holdings c.args.clusters.now) i)) c.with_ceilings-rest.result (λ i low. no_ceiling_raises (holder (holdings c.args.clusters.now) i) c.args.thread c.args.cluster (c.with_ceilings-rest.ensures i low))
 
-pub loop-at-preserved : goal.loop-at-preserved
-loop-at-preserved c = least_goes_on (λ i. ceiling_by c.args.thread c.args.cluster (holder (holdings c.args.clusters.now) i)) c.loop-at.at c.loop-at.best c.lesser_of-best.result c.ceiling_of.result (omega arith) (c.ceiling_of.ensures ∙ ap (ceiling_by c.args.thread c.args.cluster) c.holder-holding.ensures) c.lesser_of-best.ensures c.loop-at.invariant
+pub comparing-preserved : goal.comparing-preserved
+comparing-preserved c = comparing_goes_on (λ i. ceiling_by c.args.thread c.args.cluster (holder (holdings c.args.clusters.now) i)) c.comparing.rest c.take_least.new.self c.in-Some.at c.comparing.best c.lesser_of-best.result c.ceiling_of.result c.in-Some.ensures.some (c.ceiling_of.ensures ∙ ap (ceiling_by c.args.thread c.args.cluster) (c.holder-holding.ensures ∙ ap (holder (holdings c.args.clusters.now)) c.from.ensures)) c.lesser_of-best.ensures c.comparing.invariant
 
 pub returns : goal.returns
 unfolding least_ceiling least_source
-returns c = least_ends (λ i. ceiling_by c.args.thread c.args.cluster (holder (holdings c.args.clusters.now) i)) c.loop-at.at c.loop-at.best (omega arith) c.loop-at.invariant
+returns c = comparing_ends (λ i. ceiling_by c.args.thread c.args.cluster (holder (holdings c.args.clusters.now) i)) c.comparing.rest c.comparing.best c.in_default.ensures.none c.comparing.invariant

@@ -1,6 +1,6 @@
-use Rattle.std.proofs.Common.{arith}
-use Rattle.rk_model.proofs.IndexLemmas.{flag_raised}
+use Rattle.std.proofs.Common.{◌≡◌, ◌==◌, ◌||◌, ℕ, subst}
+use Rattle.rk_parts.specs.Contributions.{flagged}
 use Rattle.rk_parts.proofs.contribute.raise.Goals as goal
 
-pub returns-clause-raised : goal.returns-clause-raised
-returns-clause-raised c = λ u. flag_raised c.args.flags.now c.at.result c.args.thread u c.at.ensures.value c.at.ensures.low (omega arith)
+pub returns : goal.returns
+returns c = subst (λ n. (u : ℕ) → flagged c.insert.new.self u ≡ ((n == u) || flagged c.args.flags.now u)) c.at.ensures.value c.insert.ensures

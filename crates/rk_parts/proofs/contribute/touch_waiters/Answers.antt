@@ -4,11 +4,11 @@ use Rattle.rk_parts.proofs.contribute.touch_waiters.Goals.{then-waits_for, else-
 use Rattle.rk_parts.proofs.contribute.touch_waiters.Goals as goal
 
 pub loop-at-init : goal.loop-at-init
-loop-at-init c = waiters_none c.args.clusters.now c.args.index c.args.touched.now c.requires
+loop-at-init c = waiters_none c.args.clusters.now c.args.index c.args.touched.now
 
 pub loop-at-preserved : goal.loop-at-preserved
 loop-at-preserved c = elim c.if-waits_for.branch [
-  | then-waits_for w ↦ rw w.touched-is (waiters_flagged c.args.clusters.now c.args.index c.loop-at.at c.new-thread.result c.args.touched.now c.loop-at.touched w.raise.new.flags c.new-thread.ensures w.raise.ensures.size w.raise.ensures.raised c.loop-at.invariant)
+  | then-waits_for w ↦ rw w.touched-is (waiters_flagged c.args.clusters.now c.args.index c.loop-at.at c.new-thread.result c.args.touched.now c.loop-at.touched w.raise.new.flags c.new-thread.ensures w.raise.ensures c.loop-at.invariant)
   | else-waits_for w ↦ rw w.touched-is (waiters_passed c.args.clusters.now c.args.index c.loop-at.at c.new-thread.result c.args.touched.now c.loop-at.touched c.new-thread.ensures (sym c.waits_for.ensures ∙ w.if-waits_for.false) c.loop-at.invariant)
 ]
 
