@@ -3,6 +3,7 @@
 
 mod draft;
 mod errors;
+mod generator;
 pub mod laws;
 mod lines;
 mod operands;
@@ -13,4 +14,5 @@ mod tests;
 mod words;
 
 pub use errors::ScenarioError;
+pub use generator::generate;
 pub use read::read_scenario;

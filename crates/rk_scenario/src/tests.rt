@@ -1,4 +1,5 @@
 use crate::ScenarioError;
+use crate::generator::generate;
 use crate::read::read_scenario;
 use rk_model::{Init, Name, Op, Order, Prio, Protocol, ScenarioWhy, SemKind, Target, Wish};
 use std::alloc::Global;
@@ -628,5 +629,32 @@ fn has_a_limit_without_one(rt: HostRuntime) -> Result<(), Fail> {
     let scenario = read_scenario(rt.alloc(), text.as_bytes())?;
     assert_eq!(rt; scenario.clusters.as_slice(), [2, 2, 2, 2].as_slice());
     assert_eq!(rt; scenario.limit, 200_000);
+    Ok(())
+}
+
+/// The FNV-1a hash of bytes, in 64 bits.
+fn hash(bytes: &[u8]) -> u64 {
+    let mut sum: u64 = 14_695_981_039_346_656_037;
+    for byte in bytes {
+        sum = (sum ^ u64::from(*byte)).wrapping_mul(1_099_511_628_211);
+    }
+    sum
+}
+
+#[test]
+fn generates_the_load_of_a_number(rt: HostRuntime) -> Result<(), Fail> {
+    let rows = [
+        (0, 5604, 682_599_130_653_035_397),
+        (1, 5603, 10_630_174_446_488_274_026),
+        (2, 5598, 2_136_345_934_010_764_558),
+        (7, 5600, 16_747_796_412_022_525_281),
+        (1000, 5605, 16_518_924_659_421_925_653),
+        (4_294_967_295, 5600, 17_257_968_218_264_821_769),
+    ];
+    for (number, length, sum) in rows {
+        let text = generate(rt.alloc(), number)?;
+        assert_eq!(rt; text.len(), length, "{number}");
+        assert_eq!(rt; hash(text.as_slice()), sum, "{number}");
+    }
     Ok(())
 }
