@@ -11,3 +11,4 @@ pub mod ReasonLemmas
 pub mod OperandReasonLemmas
 pub mod LineReasonLemmas
 pub mod PlaceLemmas
+pub mod LoadLemmas

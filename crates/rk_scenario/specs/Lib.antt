@@ -1,4 +1,5 @@
 pub mod TextLaws
+pub mod Loads
 pub mod Drafts
 pub mod ReadingAnswers
 pub mod Reasons
